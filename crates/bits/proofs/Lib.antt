@@ -1,0 +1,5 @@
+pub mod Truths
+pub mod Sums
+pub mod Bits
+pub mod Words
+pub mod Nexts

@@ -1,0 +1,126 @@
+-- Laws of sums: one term more, terms that agree, sums of sums, where a sum is 0; and `min 1`, which turns a sum into "some".
+-- Assumes nothing.
+use mathlib.Core.Path.{_≡_, refl, sym, ap, ap₂, _∙_, subst}
+use mathlib.Core.Logic.{⊎-elim}
+use Prim.Native.Nat.{ℕ, zero, suc, _+_, _-_, _*_, _≤_, _<_, min, zero-le}
+use native.Mathlib.Nat.{le-step, lt-suc-self, add-zero, add-suc, mul-zero, mul-pos, zero-lt-suc, not-suc-le-zero, le-of-suc-le-suc, eq-or-lt-of-le}
+use native.Mathlib.Numerals.{add-one}
+use native.Mathlib.Omega.{arith}
+use Rattle.bits.specs.Sum.{sum, between}
+
+-- ---- sums
+pub sum-more : (n : ℕ) (f : ℕ → ℕ) → sum (n + 1) f ≡ sum n f + f n
+unfolding sum
+sum-more n f = ap (λ (m : ℕ). sum m f) (add-one n)
+
+pub sum-cong : (n : ℕ) (f g : ℕ → ℕ) → ((x : ℕ) → x < n → f x ≡ g x) → sum n f ≡ sum n g
+unfolding sum
+sum-cong zero f g h = refl
+sum-cong (suc n) f g h = ap₂ _+_ (sum-cong n f g (λ x l. h x (le-step l))) (h n (lt-suc-self n))
+
+pub sum-zero : (n : ℕ) (f : ℕ → ℕ) → ((x : ℕ) → x < n → f x ≡ 0) → sum n f ≡ 0
+unfolding sum
+sum-zero zero f h = refl
+sum-zero (suc n) f h = omega (arith, sum-zero n f (λ x l. h x (le-step l)), h n (lt-suc-self n))
+
+pub sum-le : (n c : ℕ) (f : ℕ → ℕ) → ((x : ℕ) → x < n → f x ≤ c) → sum n f ≤ n * c
+unfolding sum
+sum-le zero c f h = zero-le
+sum-le (suc n) c f h = omega (arith, sum-le n c f (λ x l. h x (le-step l)), h n (lt-suc-self n))
+
+-- the first term apart
+pub sum-front : (n : ℕ) (f : ℕ → ℕ) → sum (suc n) f ≡ f 0 + sum n (λ x. f (suc x))
+unfolding sum
+sum-front zero f = omega arith
+sum-front (suc n) f = let e : sum (suc n) f ≡ f 0 + sum n (λ x. f (suc x)) = sum-front n f in omega arith
+
+-- a sum in two parts, and one whose second part is 0
+pub sum-split : (n m : ℕ) (f : ℕ → ℕ) → sum (n + m) f ≡ sum n f + sum m (λ x. f (n + x))
+unfolding sum
+sum-split n zero f = ap (λ (y : ℕ). sum y f) (add-zero n) ∙ sym (add-zero (sum n f))
+sum-split n (suc m) f =
+    ap (λ (y : ℕ). sum y f) (add-suc n m) ∙ omega (arith, sum-split n m f)
+
+pub sum-skip : (n m : ℕ) (f : ℕ → ℕ) → ((x : ℕ) → x < m → f (n + x) ≡ 0) → sum (n + m) f ≡ sum n f
+sum-skip n m f h = omega (arith, sum-split n m f, sum-zero m (λ x. f (n + x)) h)
+
+pub sum-add : (n : ℕ) (f g : ℕ → ℕ) → sum n (λ x. f x + g x) ≡ sum n f + sum n g
+unfolding sum
+sum-add zero f g = refl
+sum-add (suc n) f g = let e : sum n (λ x. f x + g x) ≡ sum n f + sum n g = sum-add n f g in omega arith
+
+pub sum-scale : (n c : ℕ) (f : ℕ → ℕ) → sum n (λ x. c * f x) ≡ c * sum n f
+unfolding sum
+sum-scale zero c f = sym (mul-zero c)
+sum-scale (suc n) c f = let e : sum n (λ x. c * f x) ≡ c * sum n f = sum-scale n c f in omega arith
+
+pub sum-swap : (n m : ℕ) (f : ℕ → ℕ → ℕ) → sum n (λ x. sum m (f x)) ≡ sum m (λ y. sum n (λ x. f x y))
+unfolding sum
+sum-swap zero m f = sym (sum-zero m (λ y. 0) (λ y l. refl))
+sum-swap (suc n) m f = ap (λ (z : ℕ). z + sum m (f n)) (sum-swap n m f) ∙ sym (sum-add m (λ y. sum n (λ x. f x y)) (f n))
+
+-- a part of a sum is below the whole
+pub sum-room : (n : ℕ) (f : ℕ → ℕ) (r m : ℕ) → r < n → m < f r → sum r f + m < sum n f
+unfolding sum
+sum-room zero f r m h l = absurd (not-suc-le-zero h)
+sum-room (suc n) f r m h l =
+    ⊎-elim (λ (e : r ≡ n). subst (λ (q : ℕ). sum r f + m < sum q f + f q) e (omega arith))
+    (λ (q : r < n). omega (arith, sum-room n f r m q l)) (eq-or-lt-of-le (le-of-suc-le-suc h))
+
+-- ---- sums between two numbers
+pub between-none : (i k : ℕ) (f : ℕ → ℕ) → k ≤ i + 1 → between i k f ≡ 0
+unfolding between sum
+between-none i k f h = let e : k - (i + 1) ≡ 0 = omega arith in rw e
+
+pub between-more : (i k : ℕ) (f : ℕ → ℕ) → i < k → between i (k + 1) f ≡ between i k f + f k
+unfolding between
+between-more i k f h =
+    let e : k + 1 - (i + 1) ≡ k - (i + 1) + 1 = omega arith in
+    let d : i + 1 + (k - (i + 1)) ≡ k = omega arith in
+    ap (λ (m : ℕ). sum m (λ x. f (i + 1 + x))) e ∙ sum-more (k - (i + 1)) (λ x. f (i + 1 + x))
+    ∙ ap (λ (j : ℕ). sum (k - (i + 1)) (λ x. f (i + 1 + x)) + f j) d
+
+pub between-cong : (i k : ℕ) (f g : ℕ → ℕ) → ((j : ℕ) → i < j → j < k → f j ≡ g j) → between i k f ≡ between i k g
+unfolding between
+between-cong i k f g h = sum-cong (k - (i + 1)) (λ x. f (i + 1 + x)) (λ x. g (i + 1 + x)) (λ x l. h (i + 1 + x) (omega arith) (omega arith))
+
+pub between-le : (i k c : ℕ) (f : ℕ → ℕ) → ((j : ℕ) → i < j → j < k → f j ≤ c) → between i k f ≤ (k - (i + 1)) * c
+unfolding between
+between-le i k c f h = sum-le (k - (i + 1)) c (λ x. f (i + 1 + x)) (λ x l. h (i + 1 + x) (omega arith) (omega arith))
+
+pub between-zero : (i k : ℕ) (f : ℕ → ℕ) → ((j : ℕ) → i < j → j < k → f j ≡ 0) → between i k f ≡ 0
+unfolding between
+between-zero i k f h = sum-zero (k - (i + 1)) (λ x. f (i + 1 + x)) (λ x l. h (i + 1 + x) (omega arith) (omega arith))
+
+-- a part of it is below the whole
+pub between-room : (i j k : ℕ) (f : ℕ → ℕ) (m : ℕ) → i < j → j < k → m < f j → between i j f + m < between i k f
+unfolding between
+between-room i j k f m a b h =
+    let d : i + 1 + (j - (i + 1)) ≡ j = omega arith in
+    sum-room (k - (i + 1)) (λ x. f (i + 1 + x)) (j - (i + 1)) m (omega arith) (subst (λ (y : ℕ). m < f y) (sym d) h)
+
+-- ---- products of 0 and 1
+pub product-le : (p q : ℕ) → p < 2 → q < 2 → p * q ≤ 1
+product-le zero q l m = omega arith
+product-le (suc zero) q l m = omega arith
+product-le (suc (suc p)) q l m = omega arith
+
+-- ---- some: min 1 passes through sums and products
+pub some-cong : (n : ℕ) (f g : ℕ → ℕ) → ((x : ℕ) → x < n → min 1 (f x) ≡ min 1 (g x)) → min 1 (sum n f) ≡ min 1 (sum n g)
+unfolding sum
+some-cong zero f g h = refl
+some-cong (suc n) f g h =
+    let a : min 1 (sum n f) ≡ min 1 (sum n g) = some-cong n f g (λ x l. h x (le-step l)) in
+    let b : min 1 (f n) ≡ min 1 (g n) = h n (lt-suc-self n) in
+    omega arith
+
+pub some-mul : (x y : ℕ) → min 1 (x * y) ≡ min 1 x * min 1 y
+some-mul zero y = omega arith
+some-mul (suc x) zero = omega arith
+some-mul (suc x) (suc y) =
+    let a : min 1 (suc x) ≡ 1 = omega arith in
+    let b : min 1 (suc y) ≡ 1 = omega arith in
+    rw (a, b) (omega (arith, mul-pos (zero-lt-suc x) (zero-lt-suc y)))
+
+pub some-once : (x : ℕ) → min 1 (min 1 x) ≡ min 1 x
+some-once x = omega arith

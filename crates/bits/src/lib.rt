@@ -1,0 +1,43 @@
+// A word as a set of numbers below 64: one bit is tested, put in, all are counted, the next one is found.
+ghost use mathlib.Core.Path.{_≡_};
+ghost use Prim.Native.Nat.{_≤_, _<_};
+ghost use Rattle.bits.specs.Sum.{sum};
+ghost use Rattle.bits.specs.Bit.{bit, put, Next};
+
+// Bit a of a word: 0 or 1.
+pub fn bit_of(word: u64, a: usize) -> u64
+    requires { ⌜ a < 64 ⌝ }
+    ensures { λ r. ⌜ r ≡ bit word a ⌝ }
+{
+    (word >> a) % 2
+}
+
+// The word with hit, 0 or 1, put into bit a.
+pub fn put_bit(word: u64, a: usize, hit: u64) -> u64
+    requires { ⌜ (a < 64) × (hit < 2) ⌝ }
+    ensures { λ r. ⌜ r ≡ put word a hit ⌝ }
+{
+    word | (hit << a)
+}
+
+// How many bits of a word are set.
+pub fn ones(word: u64) -> u32
+    ensures { λ r. ⌜ (r ≡ sum 64 (bit word)) × (r ≤ 64) ⌝ }
+{
+    u64::count_ones(word)
+}
+
+// The first set bit from `from` on, or 64 where there is none.
+pub fn next_bit(word: u64, from: usize) -> usize
+    requires { ⌜ from ≤ 64 ⌝ }
+    ensures { λ r. ⌜ Next word from r ⌝ }
+{
+    if from == 64 {
+        return 64;
+    }
+    let rest = word >> from;
+    if rest == 0 {
+        return 64;
+    }
+    from + u64::trailing_zeros(rest) as usize
+}

@@ -1,0 +1,96 @@
+-- Every example holds: the definitions are computed on all rows at once, and `known` is turned into the verdict.
+-- Assumes nothing.
+use mathlib.Core.Path.{_≡_, refl, sym, ap, _∙_}
+use mathlib.Core.Logic.{⊎-elim}
+use mathlib.Core.Bool.{Bool, true, false}
+use mathlib.Core.List.{List, [], _∷_, map, head-eq-of-cons-eq, tail-eq-of-cons-eq, List·Memᴰ·not-nil, List·Memᴰ·cases-cons}
+use Prim.Native.Nat.{ℕ}
+use native.Mathlib.Omega.{arith}
+use lib.Dec.{ltb}
+use borrow.Author.Tests.{ltb-true}
+use lib.ListN.{length, getD}
+use lib.Count.{ones, onesIn}
+use Rattle.bits.specs.Truth.{Decides, same}
+use Rattle.bits.specs.Sum.{sum, between}
+use Rattle.derivation.specs.Grammar.{Grammar}
+use Rattle.derivation.specs.Tree.{Admitted, script}
+use Rattle.derivation.specs.Derivations.{join, gate, cross, leafAt, nodesAt, splitsAt, level, trees, derivations, readings, scripts, count, known}
+use Rattle.derivation.specs.Chart.{column, cellAt, cell, items, eventFirings, pairFirings, columnFirings, firings}
+use Rattle.derivation.specs.Examples.{chain, stop, Detail, reading, word, Example, example, DetailHolds, DetailsHold, Holds, examples}
+use Rattle.derivation.proofs.Lists.{_∈_, truth}
+use Rattle.derivation.proofs.Counts.{known-of, of-known}
+
+-- ---- what is computed, as the definitions have it and as the row has it
+abbrev Value : Type 0
+Value = record { within : Bool; words : List ℕ }
+
+detail : Grammar → List ℕ → Detail → Value
+detail g w (reading q s) = record { within = ltb q (length (scripts g w)); words = getD (scripts g w) q [] }
+detail g w (word i k n v) = record { within = true; words = cellAt i k ∷ cell g w i k ∷ [] }
+
+said : Detail → Value
+said (reading q s) = record { within = true; words = s }
+said (word i k n v) = record { within = true; words = n ∷ v ∷ [] }
+
+abbrev Values : Type 0
+Values = record { verdict : ℕ; items : ℕ; firings : ℕ; readings : ℕ; details : List Value }
+
+computed : Example → Values
+computed e =
+    let g = e .grammar in
+    let w = e .events in
+    record {
+      verdict = known g w 0 0 (length w);
+      items = items g w;
+      firings = firings g w;
+      readings = length (scripts g w);
+      details = map (detail g w) (e .details);
+    }
+
+stated : Example → Values
+stated e = record {
+  verdict = truth (e .verdict);
+  items = e .items;
+  firings = e .firings;
+  readings = e .readings;
+  details = map said (e .details);
+}
+
+computes : map computed examples ≡ map stated examples
+unfolding examples example computed stated detail said script scripts chain stop column cell readings known items firings eventFirings pairFirings columnFirings count derivations trees level join sum between same ones onesIn cross gate leafAt nodesAt splitsAt
+computes = refl
+
+-- ---- from the values to what the row says
+at-element : {X Y : Type 0} {x : X} (f h : X → Y) (l : List X) → map f l ≡ map h l → x ∈ l → f x ≡ h x
+at-element f h [] e m = absurd (List·Memᴰ·not-nil m)
+at-element f h (y ∷ ys) e m =
+    ⊎-elim (λ q. ap f q ∙ head-eq-of-cons-eq e ∙ ap h (sym q)) (at-element f h ys (tail-eq-of-cons-eq e)) (List·Memᴰ·cases-cons m)
+
+decided : (g : Grammar) (w : List ℕ) (b : Bool) → known g w 0 0 (length w) ≡ truth b → Decides b (Admitted g w)
+decided g w true e = of-known g w 0 0 (length w) e
+decided g w false e = λ d. let h : known g w 0 0 (length w) ≡ 1 = known-of g w 0 0 (length w) d in omega arith
+
+detail-holds : (g : Grammar) (w : List ℕ) (d : Detail) → detail g w d ≡ said d → DetailHolds g w d
+unfolding detail said
+detail-holds g w (reading q s) e = (ltb-true q (length (scripts g w)) (ap (λ (v : Value). v .within) e), ap (λ (v : Value). v .words) e)
+detail-holds g w (word i k n v) e =
+    let h = ap (λ (v : Value). v .words) e in (head-eq-of-cons-eq h, head-eq-of-cons-eq (tail-eq-of-cons-eq h))
+
+details-hold : (g : Grammar) (w : List ℕ) (ds : List Detail) → map (detail g w) ds ≡ map said ds → DetailsHold g w ds
+details-hold g w [] e = tt
+details-hold g w (d ∷ ds) e = (detail-holds g w d (head-eq-of-cons-eq e), details-hold g w ds (tail-eq-of-cons-eq e))
+
+holds : (e : Example) → computed e ≡ stated e → Holds e
+unfolding computed stated
+holds e q =
+    record {
+      verdict = decided (e .grammar) (e .events) (e .verdict) (ap (λ (v : Values). v .verdict) q);
+      items = ap (λ (v : Values). v .items) q;
+      firings = ap (λ (v : Values). v .firings) q;
+      readings = ap (λ (v : Values). v .readings) q;
+      details = details-hold (e .grammar) (e .events) (e .details) (ap (λ (v : Values). v .details) q);
+    }
+
+-- every row marked P holds
+pub examples-hold : (e : Example) → e ∈ examples → Holds e
+examples-hold e m = holds e (at-element computed stated examples computes m)

@@ -1,0 +1,13 @@
+pub mod Lists
+pub mod Orders
+pub mod Sound
+pub mod Exact
+pub mod Rising
+pub mod Scripts
+pub mod Counts
+pub mod Numbering
+pub mod Places
+pub mod Columns
+pub mod Cells
+pub mod Bound
+pub mod Examples

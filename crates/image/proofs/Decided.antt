@@ -1,0 +1,140 @@
+-- Each demand of the tables is decided, so that a table always has an answer, and one that computes.
+-- Assumes nothing.
+use Prim.Native.Nat.{ℕ, zero, suc, _+_, _-_, _*_, _<_}
+use native.Mathlib.Nat.{lt-suc-self, le-step, le-of-suc-le-suc, eq-or-lt-of-le, not-suc-le-zero}
+use native.Mathlib.Decide.{ℕ-discrete, decLe, decLt}
+use mathlib.Core.Path.{_≡_, sym, subst}
+use mathlib.Core.Logic.{_⊎_, inl, inr, ⊎-elim, Dec·and, Dec·not}
+use mathlib.Core.List.{List, [], _∷_, _++_}
+use lib.ListN.{length}
+use Rattle.bits.specs.Truth.{Every}
+use Rattle.derivation.specs.Order.{Before, less, equal}
+use Rattle.derivation.specs.Grammar.{Grammar, leafCount, ruleCount}
+use Rattle.derivation.specs.Sound.{mostSymbols, mostLeaves, mostPairs, InRange, highest, asNumbers, SymbolsFit, Rises}
+use Rattle.derivation.proofs.Orders.{none-before}
+use Rattle.image.specs.Refusal.{Row, _unless_, First}
+use Rattle.layout.specs.Layout.{headerBytes, byteAt, versionIn, symbolsIn, leavesIn, pairsIn, rulesFrom, decode}
+use Rattle.image.specs.Image.{mostEvents, Marked, byteRows, ruleRows, imageRows, eventRows, recordRows}
+use Rattle.image.proofs.Refusals.{none, fail, pass}
+
+-- ---- any table whose demands are decided
+abbrev pub Decided : List Row → Type 0
+Decided [] = Unit {0}
+Decided ((k unless P) ∷ rows) = Dec P × Decided rows
+
+unfoldable pub pick : {P : Type 0} → Dec P → ℕ → ℕ → ℕ
+pick (yes p) k n = n
+pick (no p) k n = k
+
+unfoldable pub answer : (rows : List Row) → Decided rows → ℕ
+answer [] d = 0
+answer ((k unless P) ∷ rows) d = pick (d .0) k (answer rows (d .1))
+
+picked : {P : Type 0} (d : Dec P) (k n : ℕ) (rows : List Row) → First rows n → First ((k unless P) ∷ rows) (pick d k n)
+unfolding pick
+picked (yes p) k n rows f = pass p f
+picked (no p) k n rows f = fail p
+
+pub answer-is : (rows : List Row) (d : Decided rows) → First rows (answer rows d)
+unfolding answer
+answer-is [] d = none
+answer-is ((k unless P) ∷ rows) d = picked (d .0) k _ rows (answer-is rows (d .1))
+
+unfoldable pub decided-both : (rows more : List Row) → Decided rows → Decided more → Decided (rows ++ more)
+decided-both [] more d e = e
+decided-both ((k unless P) ∷ rows) more d e = (d .0, decided-both rows more (d .1) e)
+
+-- ---- decisions of the forms that demands have
+unfoldable pub dec-as : {A B : Type 0} → (A → B) → (B → A) → Dec A → Dec B
+dec-as f h (yes a) = yes (f a)
+dec-as f h (no a) = no (λ b. a (h b))
+
+unfoldable pub dec-implies : {A B : Type 0} → Dec A → Dec B → Dec (A → B)
+dec-implies (yes a) (yes b) = yes (λ _. b)
+dec-implies (yes a) (no b) = no (λ f. b (f a))
+dec-implies (no a) d = yes (λ x. absurd (a x))
+
+unfoldable pub dec-either : {A B : Type 0} → Dec A → Dec B → Dec (A ⊎ B)
+dec-either (yes a) d = yes (inl a)
+dec-either (no a) (yes b) = yes (inr b)
+dec-either (no a) (no b) = no (λ p. ⊎-elim a b p)
+
+pub every-more : (m : ℕ) (P : ℕ → Type 0) → Every m P × P m → Every (suc m) P
+every-more m P p r l = ⊎-elim (λ e. subst P (sym e) (p .1)) (λ h. p .0 r h) (eq-or-lt-of-le (le-of-suc-le-suc l))
+
+pub every-less : (m : ℕ) (P : ℕ → Type 0) → Every (suc m) P → Every m P × P m
+every-less m P f = (λ r l. f r (le-step l), f m (lt-suc-self m))
+
+unfoldable pub dec-every : (m : ℕ) (P : ℕ → Type 0) → ((r : ℕ) → Dec (P r)) → Dec (Every m P)
+dec-every zero P d = yes (λ r l. absurd (not-suc-le-zero l))
+dec-every (suc m) P d = dec-as (every-more m P) (every-less m P) (Dec·and (dec-every m P d) (d m))
+
+pub before-to : {x y : ℕ} {xs ys : List ℕ} → (x < y) ⊎ ((x ≡ y) × Before xs ys) → Before (x ∷ xs) (y ∷ ys)
+before-to (inl p) = less p
+before-to (inr p) = equal (p .0) (p .1)
+
+pub before-from : {x y : ℕ} {xs ys : List ℕ} → Before (x ∷ xs) (y ∷ ys) → (x < y) ⊎ ((x ≡ y) × Before xs ys)
+before-from (less p) = inl p
+before-from (equal e p) = inr (e, p)
+
+unfoldable pub dec-before : (xs ys : List ℕ) → Dec (Before xs ys)
+dec-before [] ys = no none-before
+dec-before (x ∷ xs) [] = no (elim [ ])
+dec-before (x ∷ xs) (y ∷ ys) = dec-as before-to before-from (dec-either (decLt x y) (Dec·and (ℕ-discrete x y) (dec-before xs ys)))
+
+-- ---- the demands
+unfoldable pub marked? : (b : List ℕ) → Dec (Marked b)
+marked? b =
+    dec-as (λ p. record { E = p .0; S = p .1 .0; G = p .1 .1 }) (λ m. (m .E, (m .S, m .G)))
+    (Dec·and (ℕ-discrete (byteAt b 0) 0x45) (Dec·and (ℕ-discrete (byteAt b 1) 0x53) (ℕ-discrete (byteAt b 2) 0x47)))
+
+unfoldable pub range? : (N L B : ℕ) → Dec (InRange N L B)
+range? N L B =
+    dec-as (λ p. record { some = p .0 .0; symbols = p .0 .1; leaves = p .1 .0; pairs = p .1 .1 })
+    (λ r. ((r .some, r .symbols), (r .leaves, r .pairs)))
+    (Dec·and (Dec·and (decLe 1 N) (decLe N mostSymbols)) (Dec·and (decLe L mostLeaves) (decLe B mostPairs)))
+
+unfoldable pub fit? : (g : Grammar) (r : ℕ) → Dec (SymbolsFit g r)
+fit? g r = decLt (highest g r) (g .symbols)
+
+unfoldable pub rises? : (g : Grammar) (r : ℕ) → Dec (Rises g r)
+rises? g r =
+    dec-implies (decLt 0 r)
+    (dec-implies (Dec·not (ℕ-discrete r (leafCount g))) (dec-before (asNumbers g (r - 1)) (asNumbers g r)))
+
+-- ---- the tables
+unfoldable pub bytes-decided : (b : List ℕ) → Decided (byteRows b)
+bytes-decided b = (
+  decLe headerBytes (length b),
+  (
+    marked? b,
+    (
+      ℕ-discrete (versionIn b) 1,
+      (range? (symbolsIn b) (leavesIn b) (pairsIn b), (ℕ-discrete (length b) (rulesFrom b + 3 * (leavesIn b + pairsIn b)), tt)),
+    ),
+  ),
+)
+
+unfoldable pub rules-decided : (g : Grammar) → Decided (ruleRows g)
+rules-decided g = (dec-every (ruleCount g) (SymbolsFit g) (fit? g), (dec-every (ruleCount g) (Rises g) (rises? g), tt))
+
+unfoldable pub image-decided : (b : List ℕ) → Decided (imageRows b)
+image-decided b = decided-both (byteRows b) (ruleRows (decode b)) (bytes-decided b) (rules-decided (decode b))
+
+unfoldable pub record-decided : (b : List ℕ) (n : ℕ) → Decided (recordRows b n)
+record-decided b n = decided-both (imageRows b) (eventRows n) (image-decided b) (decLe n mostEvents, tt)
+
+-- the refusal of any image, and of any image and number of events
+unfoldable pub imageRefusal : List ℕ → ℕ
+imageRefusal b = answer (imageRows b) (image-decided b)
+
+pub image-answered : (b : List ℕ) → First (imageRows b) (imageRefusal b)
+unfolding imageRefusal
+image-answered b = answer-is (imageRows b) (image-decided b)
+
+unfoldable pub recordRefusal : List ℕ → ℕ → ℕ
+recordRefusal b n = answer (recordRows b n) (record-decided b n)
+
+pub record-answered : (b : List ℕ) (n : ℕ) → First (recordRows b n) (recordRefusal b n)
+unfolding recordRefusal
+record-answered b n = answer-is (recordRows b n) (record-decided b n)

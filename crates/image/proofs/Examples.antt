@@ -1,0 +1,45 @@
+-- The images of 01 and what the table says of them, by computing; and the largest number of firings that 01 names.
+-- Assumes nothing.
+use native.Mathlib.Decide.{ℕ-discrete, decLe, decLt}
+use mathlib.Core.Logic.{Dec·and, Dec·not}
+use mathlib.Core.Path.{_≡_, refl}
+use mathlib.Core.List.{List, [], _∷_}
+use Prim.Native.Nat.{ℕ}
+use Rattle.derivation.specs.Sound.{mostSymbols, mostPairs}
+use Rattle.derivation.specs.Chart.{firingsBound}
+use Rattle.derivation.specs.Examples.{chain, stop}
+use Rattle.layout.specs.Layout.{rulesFrom, counting, decode}
+use Rattle.image.specs.Image.{mostEvents}
+use Rattle.image.proofs.Decided.{pick, answer, decided-both, dec-as, dec-implies, dec-either, dec-every, dec-before, marked?, range?, fit?, rises?, bytes-decided, rules-decided, image-decided, imageRefusal}
+
+unfoldable pub chainImage : List ℕ
+chainImage = 0x45 ∷ 0x53 ∷ 0x47 ∷ 1 ∷ 0 ∷ 1 ∷ 1 ∷ 0 ∷ 1 ∷ 0 ∷ 0 ∷ 7 ∷ 0 ∷ 0 ∷ 0 ∷ 0 ∷ []
+
+unfoldable pub stopImage : List ℕ
+stopImage =
+    0x45 ∷ 0x53 ∷ 0x47 ∷ 1 ∷ 0 ∷ 6 ∷ 3 ∷ 0 ∷ 4 ∷ 0
+    ∷ 2 ∷ 1 ∷ 0 ∷ 4 ∷ 2 ∷ 0 ∷ 5 ∷ 3 ∷ 0
+    ∷ 0 ∷ 1 ∷ 0 ∷ 0 ∷ 2 ∷ 3 ∷ 1 ∷ 2 ∷ 3 ∷ 3 ∷ 4 ∷ 5 ∷ []
+
+-- CHAIN with its event rule twice
+unfoldable pub twiceImage : List ℕ
+twiceImage = 0x45 ∷ 0x53 ∷ 0x47 ∷ 1 ∷ 0 ∷ 1 ∷ 2 ∷ 0 ∷ 1 ∷ 0 ∷ 0 ∷ 7 ∷ 0 ∷ 0 ∷ 7 ∷ 0 ∷ 0 ∷ 0 ∷ 0 ∷ []
+
+-- they show the grammars of the examples
+pub chain-shown : decode chainImage ≡ chain
+unfolding decode counting rulesFrom chainImage chain
+chain-shown = refl
+
+pub stop-shown : decode stopImage ≡ stop
+unfolding decode counting rulesFrom stopImage stop
+stop-shown = refl
+
+-- CHAIN and STOP are accepted, and a rule twice is refusal 7
+pub refusals : (imageRefusal chainImage ∷ imageRefusal stopImage ∷ imageRefusal twiceImage ∷ []) ≡ 0 ∷ 0 ∷ 7 ∷ []
+unfolding imageRefusal image-decided bytes-decided rules-decided decided-both answer pick marked? range? fit? rises? dec-every dec-before dec-as dec-either dec-implies Dec·and Dec·not decode counting rulesFrom chainImage stopImage twiceImage ℕ-discrete decLe decLt
+refusals = refl
+
+-- at the largest values
+pub most-firings : firingsBound mostEvents mostSymbols mostPairs ≡ 11186176
+unfolding firingsBound
+most-firings = refl

@@ -1,0 +1,122 @@
+-- Laws of the two tests: one answer only, what the answer 0 gives, and how a service goes on from them.
+-- Assumes nothing.
+use Prim.Native.Nat.{ℕ, _+_, _≤_}
+use native.Mathlib.Decide.{ℕ-discrete}
+use native.Mathlib.Omega.{arith}
+use mathlib.Core.Path.{_≡_, sym, _∙_, subst}
+use mathlib.Core.Logic.{_≢_}
+use mathlib.Core.List.{List, _++_}
+use lib.ListN.{length}
+use Rattle.derivation.specs.Grammar.{Grammar}
+use Rattle.image.specs.declared.Tested.{Tested}
+use Rattle.image.specs.Refusal.{Row, FirstOf, First}
+use Rattle.layout.specs.Layout.{rulesFrom, decode, Whole}
+use Rattle.image.specs.Image.{byteRows, ruleRows, imageRows, Counts, Shows, TestedIs, Accepted, longestImage}
+use Rattle.image.proofs.Refusals.{AllHold, Positive, none, pass, first-only, first-zero, first-hit, first-pass}
+use Rattle.layout.proofs.Decoded.{leaf-count, pair-count, symbol-count}
+
+-- ---- one answer only
+counts-only : (t u : Tested) (N L B : ℕ) → t .number ≡ u .number → Counts t N L B → Counts u N L B → t ≡ u
+counts-only t u N L B e p q = λ i. record {
+  number = e i;
+  symbols = (p .symbols ∙ sym (q .symbols)) i;
+  leaves = (p .leaves ∙ sym (q .leaves)) i;
+  pairs = (p .pairs ∙ sym (q .pairs)) i;
+}
+
+pub tested-only : {rows : List Row} {g : Grammar} {t u : Tested} → TestedIs rows g t → TestedIs rows g u → t ≡ u
+tested-only {t = t} {u = u} p q = go (ℕ-discrete (t .number) 0)
+  where
+    e : t .number ≡ u .number
+    e = first-only (p .number) (q .number)
+
+    go : Dec (t .number ≡ 0) → t ≡ u
+    go (yes z) = counts-only t u _ _ _ e (p .accepted z) (q .accepted (sym e ∙ z))
+    go (no z) = counts-only t u _ _ _ e (p .refused z) (q .refused (λ w. z (e ∙ w)))
+
+-- ---- what a test answers that refuses
+pub refusal : (rows : List Row) (g : Grammar) (t : Tested) (n : ℕ) → n ≢ 0 → First rows n → (t .number ≡ n) × Counts t 0 0 0 → TestedIs rows g t
+refusal rows g t n z p q = record {
+  number = subst (First rows) (sym (q .0)) p;
+  accepted = λ e. absurd (z (sym (q .0) ∙ e));
+  refused = λ _. q .1;
+}
+
+-- and what one answers that accepts
+pub acceptance : (rows : List Row) (g : Grammar) (t : Tested) → First rows 0 → (t .number ≡ 0) × Shows t g → TestedIs rows g t
+acceptance rows g t p q = record {
+  number = subst (First rows) (sym (q .0)) p;
+  accepted = λ _. q .1;
+  refused = λ z. absurd (z (q .0));
+}
+
+-- the number 0 says that every demand holds
+all-hold : (rows : List Row) → Positive rows → (n : ℕ) → n ≡ 0 → First rows n → AllHold rows
+all-hold rows z n e p = first-zero rows z (subst (FirstOf rows) e (p .is))
+
+-- ---- within the test of an image
+module _ (b : List ℕ) (n : ℕ) (e : n ≡ 0) (p : First (byteRows b) n) where
+  pub bytes-hold : AllHold (byteRows b)
+  bytes-hold = all-hold (byteRows b) (omega arith) n e p
+
+  pub whole : Whole b
+  whole = record { long = bytes-hold .0; sized = bytes-hold .1 .1 .1 .1 .0 }
+
+  -- past the bytes the rules decide
+  pub by-rules : {m : ℕ} → First (ruleRows (decode b)) m → First (imageRows b) m
+  by-rules q = first-pass (byteRows b) (ruleRows (decode b)) bytes-hold q
+
+-- ---- what is accepted
+module _ (b : List ℕ) where
+  images-hold : (n : ℕ) → n ≡ 0 → First (imageRows b) n → AllHold (imageRows b)
+  images-hold = all-hold (imageRows b) (omega arith)
+
+  pub accepted : First (imageRows b) 0 → Accepted b
+  accepted p =
+      let h = first-zero (imageRows b) (omega arith) (p .is) in
+      let q = h .1 .1 .1 .0 in
+      record {
+        marked = h .1 .0;
+        version = h .1 .1 .0;
+        whole = record { long = h .0; sized = h .1 .1 .1 .1 .0 };
+        sound = record {
+          range = record {
+            some = rw symbol-count (q .some);
+            symbols = rw symbol-count (q .symbols);
+            leaves = rw leaf-count (q .leaves);
+            pairs = rw pair-count (q .pairs);
+          };
+          fit = h .1 .1 .1 .1 .1 .0;
+          rising = h .1 .1 .1 .1 .1 .1 .0;
+        };
+      }
+
+  pub accepted-back : Accepted b → First (imageRows b) 0
+  accepted-back a =
+      let q = a .sound .range in
+      pass (a .whole .long)
+      (pass (a .marked)
+      (pass (a .version)
+      (pass (record {
+        some = rw (← symbol-count b) (q .some);
+        symbols = rw (← symbol-count b) (q .symbols);
+        leaves = rw (← leaf-count b) (q .leaves);
+        pairs = rw (← pair-count b) (q .pairs);
+      })
+      (pass (a .whole .sized) (pass (a .sound .fit) (pass (a .sound .rising) none))))))
+
+  -- an accepted image is at most 2,314 bytes long
+  pub accepted-short : Accepted b → length b ≤ longestImage
+  unfolding rulesFrom
+  accepted-short a = omega (arith, a .whole .sized, a .sound .range .leaves, a .sound .range .pairs, leaf-count b, pair-count b)
+
+  pub tested-accepted : (t : Tested) → TestedIs (imageRows b) (decode b) t → t .number ≡ 0 → Accepted b
+  tested-accepted t p e = accepted (subst (First (imageRows b)) e (p .number))
+
+-- ---- for the test of a record, and for the services above: a table is the one before it and more rows
+module _ (rows more : List Row) {g : Grammar} (t : Tested) (p : TestedIs rows g t) where
+  pub refused-first : t .number ≢ 0 → First (rows ++ more) (t .number)
+  refused-first z = first-hit rows more z (p .number)
+
+  pub accepted-first : Positive rows → t .number ≡ 0 → {m : ℕ} → First more m → First (rows ++ more) m
+  accepted-first o e q = first-pass rows more (all-hold rows o (t .number) e (p .number)) q

@@ -1,0 +1,71 @@
+-- An image longer than the longest acceptable one is refused by its first bytes: the first 2,315 of them give the same refusal.
+-- Assumes nothing.
+use Prim.Native.Nat.{ℕ, _+_, _*_, _<_}
+use native.Mathlib.Omega.{arith}
+use mathlib.Core.Path.{_≡_, sym, ap₂, _∙_}
+use mathlib.Core.Logic.{inl, inr}
+use mathlib.Core.List.{List, _∷_}
+use lib.ListN.{length, take}
+use lib.Seq.{getD-take, length-take-le}
+use Rattle.image.specs.declared.Tested.{Tested}
+use Rattle.image.specs.Refusal.{Row, _unless_, FirstOf, First}
+use Rattle.layout.specs.Layout.{headerBytes, byteAt, wordAt, rulesFrom, decode, Sized}
+use Rattle.image.specs.Image.{Marked, Ranged, imageRows, TestedIs, longestImage}
+use Rattle.image.proofs.Images.{tested-accepted, accepted-short}
+
+-- two tables, row by row: where a demand holds in both the rest decides
+carry : {k n : ℕ} {P Q : Type 0} {rows more : List Row} → (P → Q) → (Q → P) → (P → First rows n → First more n)
+    → First ((k unless P) ∷ rows) n → First ((k unless Q) ∷ more) n
+carry {k} {n} {P} {Q} {rows} {more} f h on p = go (p .is)
+  where
+    go : FirstOf ((k unless P) ∷ rows) n → First ((k unless Q) ∷ more) n
+    go (inl x) = record { is = inl (λ q. x .0 (h q), x .1) }
+    go (inr x) = record { is = inr (f (x .0), on (x .0) (record { is = x .1 }) .is) }
+
+-- where it fails in both, it decides
+halt : {k n : ℕ} {P Q : Type 0} {rows more : List Row} → (P → ⊥) → (Q → ⊥) → First ((k unless P) ∷ rows) n → First ((k unless Q) ∷ more) n
+halt f h = carry (λ p. absurd (f p)) (λ q. absurd (h q)) (λ p. absurd (f p))
+
+-- the same header
+abbrev Alike : List ℕ → List ℕ → Type 0
+Alike b d = (k : ℕ) → k < headerBytes → byteAt b k ≡ byteAt d k
+
+marked-as : (b d : List ℕ) → Alike b d → Marked b → Marked d
+marked-as b d e m = record { E = sym (e 0 (omega arith)) ∙ m .E; S = sym (e 1 (omega arith)) ∙ m .S; G = sym (e 2 (omega arith)) ∙ m .G }
+
+word-as : (b d : List ℕ) → Alike b d → (k : ℕ) → k + 1 < headerBytes → wordAt b k ≡ wordAt d k
+word-as b d e k h = ap₂ (λ (x y : ℕ). x + 256 * y) (e k (omega arith)) (e (k + 1) h)
+
+ranged-as : (b d : List ℕ) → Alike b d → Ranged b → Ranged d
+ranged-as b d e r =
+    let s = e 5 (omega arith) in
+    let l = word-as b d e 6 (omega arith) in
+    let p = word-as b d e 8 (omega arith) in
+    record { some = omega (arith, r .some); symbols = omega (arith, r .symbols); leaves = omega (arith, r .leaves); pairs = omega (arith, r .pairs) }
+
+not-sized : (b : List ℕ) → longestImage < length b → Ranged b → Sized b → ⊥
+unfolding rulesFrom
+not-sized b l r s = omega (arith, r .leaves, r .pairs)
+
+-- two images longer than any that is accepted get the same refusal where their headers are the same
+pub begins-alike : (b d : List ℕ) (n : ℕ) → longestImage < length b → longestImage < length d → Alike b d
+    → First (imageRows b) n → First (imageRows d) n
+begins-alike b d n l m e p =
+    let f : Alike d b = λ k h. sym (e k h) in
+    carry (λ h. omega arith) (λ h. omega arith) (λ _.
+    carry (marked-as b d e) (marked-as d b f) (λ _.
+    carry (λ h. sym (word-as b d e 3 (omega arith)) ∙ h) (λ h. word-as b d e 3 (omega arith) ∙ h) (λ _.
+    carry (ranged-as b d e) (ranged-as d b f) (λ r.
+    halt (not-sized b l r) (not-sized d m (ranged-as b d e r)))))) p
+
+-- nobody need read more than 2,315 bytes of an image: the test of those is the test of all
+pub first-bytes : (b : List ℕ) (t : Tested) → longestImage < length b
+    → TestedIs (imageRows (take (longestImage + 1) b)) (decode (take (longestImage + 1) b)) t → TestedIs (imageRows b) (decode b) t
+first-bytes b t l p =
+    let d = take (longestImage + 1) b in
+    let s : length d ≡ longestImage + 1 = length-take-le (longestImage + 1) b (omega arith) in
+    record {
+      number = begins-alike d b (t .number) (omega arith) l (λ k h. getD-take (longestImage + 1) b k 0 (omega arith)) (p .number);
+      accepted = λ e. absurd (omega (arith, accepted-short d (tested-accepted d t p e)));
+      refused = p .refused;
+    }

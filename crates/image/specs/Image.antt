@@ -1,0 +1,85 @@
+-- What is asked of a grammar image and of a record, as the rows of 01's refusal table, and what the two tests answer.
+-- Assumes nothing.
+use Prim.Native.Nat.{ℕ, _+_, _*_, _≤_}
+use mathlib.Core.Path.{_≡_}
+use mathlib.Core.Logic.{_≢_}
+use mathlib.Core.List.{List, [], _∷_, _++_}
+use lib.ListN.{length}
+use Rattle.bits.specs.Truth.{Every}
+use Rattle.derivation.specs.Grammar.{Grammar, leafCount, pairCount, ruleCount}
+use Rattle.derivation.specs.Sound.{mostLeaves, mostPairs, InRange, SymbolsFit, Rises, Sound}
+use Rattle.image.specs.Refusal.{Row, _unless_, First}
+use Rattle.layout.specs.Layout.{headerBytes, byteAt, versionIn, symbolsIn, leavesIn, pairsIn, Sized, Whole, decode}
+use Rattle.image.specs.declared.Tested.{Tested}
+
+-- ---- the demands
+-- bytes 0 to 2 are the letters ESG
+pub record Marked (b : List ℕ) : Type 0 where
+  pub E : byteAt b 0 ≡ 0x45
+  pub S : byteAt b 1 ≡ 0x53
+  pub G : byteAt b 2 ≡ 0x47
+
+-- the version is 1
+abbrev pub Versioned : List ℕ → Type 0
+Versioned b = versionIn b ≡ 1
+
+-- N, L and B are in range
+abbrev pub Ranged : List ℕ → Type 0
+Ranged b = InRange (symbolsIn b) (leavesIn b) (pairsIn b)
+
+-- the most events that a record may have
+abbrev pub mostEvents : ℕ
+mostEvents = 64
+
+-- ---- the rows, of the bytes, of the rules, and of the number of events
+abbrev pub byteRows : List ℕ → List Row
+byteRows b =
+    (1 unless (headerBytes ≤ length b))
+    ∷ (2 unless Marked b)
+    ∷ (3 unless Versioned b)
+    ∷ (4 unless Ranged b)
+    ∷ (5 unless Sized b)
+    ∷ []
+
+abbrev pub ruleRows : Grammar → List Row
+ruleRows g =
+    (6 unless Every (ruleCount g) (SymbolsFit g))
+    ∷ (7 unless Every (ruleCount g) (Rises g))
+    ∷ []
+
+abbrev pub eventRows : ℕ → List Row
+eventRows n = (8 unless (n ≤ mostEvents)) ∷ []
+
+-- refusals 1 to 7, of any image
+abbrev pub imageRows : List ℕ → List Row
+imageRows b = byteRows b ++ ruleRows (decode b)
+
+-- refusals 1 to 8, of any image and any number of events: every service that takes a record begins with these
+abbrev pub recordRows : List ℕ → ℕ → List Row
+recordRows b n = imageRows b ++ eventRows n
+
+-- ---- what a test by such rows answers: the first that applies with zeros, or 0 with N, L and B
+pub record Counts (t : Tested) (N L B : ℕ) : Type 0 where
+  pub symbols : t .symbols ≡ N
+  pub leaves : t .leaves ≡ L
+  pub pairs : t .pairs ≡ B
+
+-- N, L and B of the grammar
+abbrev pub Shows : Tested → Grammar → Type 0
+Shows t g = Counts t (g .symbols) (leafCount g) (pairCount g)
+
+pub record TestedIs (rows : List Row) (g : Grammar) (t : Tested) : Type 0 where
+  pub number : First rows (t .number)
+  pub accepted : t .number ≡ 0 → Shows t g
+  pub refused : t .number ≢ 0 → Counts t 0 0 0
+
+-- ---- what 1 to 7 let pass, neither more nor less
+pub record Accepted (b : List ℕ) : Type 0 where
+  pub marked : Marked b
+  pub version : Versioned b
+  pub whole : Whole b
+  pub sound : Sound (decode b)
+
+-- the longest image that is accepted
+abbrev pub longestImage : ℕ
+longestImage = headerBytes + 3 * (mostLeaves + mostPairs)

@@ -1,0 +1,76 @@
+// The grammar image: its test by refusals 1 to 7, and the test that every service over a record begins with.
+mod faults; // tests on rules
+mod refuse; // tests on the header
+
+ghost use mathlib.Core.Path.{_≡_};
+ghost use Prim.Native.Nat.{_≤_};
+ghost use lib.ListN.{length};
+ghost use Rattle.layout.specs.Layout.{headerBytes, decode};
+ghost use Rattle.image.specs.Image.{imageRows, recordRows, Counts, Shows, TestedIs};
+
+// The most events that a record may have.
+pub const MOST_EVENTS: usize = 64;
+
+// What a test answers: a refusal's number with zeros, or 0 with N, L and B.
+pub struct Tested {
+    pub number: u8,
+    pub symbols: usize,
+    pub leaves: usize,
+    pub pairs: usize,
+}
+
+fn refused(number: u8) -> Tested
+    ensures { λ t. ⌜ (t .number ≡ number) × Counts t 0 0 0 ⌝ }
+{
+    Tested {
+        number: number,
+        symbols: 0,
+        leaves: 0,
+        pairs: 0,
+    }
+}
+
+fn accepted(image: &[u8]) -> Tested
+    requires { ⌜ headerBytes ≤ length (now image) ⌝ }
+    ensures { λ t. ⌜ (t .number ≡ 0) × Shows t (decode (now (image .entry))) ⌝ }
+{
+    let symbols = layout::symbol_count(image);
+    let leaves = layout::leaf_count(image);
+    let pairs = layout::pair_count(image);
+    Tested {
+        number: 0,
+        symbols: symbols,
+        leaves: leaves,
+        pairs: pairs,
+    }
+}
+
+// Tests a grammar image: refusals 1 to 7.
+pub fn test_image(image: &[u8]) -> Tested
+    ensures { λ t. ⌜ TestedIs (imageRows (now (image .entry))) (decode (now (image .entry))) t ⌝ }
+{
+    let early = refuse::byte_refusal(image);
+    if early != 0 {
+        return refused(early);
+    }
+    let late = faults::rule_refusal(image);
+    if late != 0 {
+        return refused(late);
+    }
+    accepted(image)
+}
+
+// Tests a grammar image and a number of events: refusals 1 to 8.
+pub fn test_record(image: &[u8], events: usize) -> Tested
+    ensures { λ t. ⌜ TestedIs (recordRows (now (image .entry)) events) (decode (now (image .entry))) t ⌝ }
+{
+    let tested = test_image(image);
+    let early = tested.number;
+    if early != 0 {
+        return tested;
+    }
+    if MOST_EVENTS < events {
+        return refused(8);
+    }
+    tested
+}

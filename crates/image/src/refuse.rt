@@ -1,0 +1,101 @@
+// Tests on the bytes: one function for each demand of refusals 2 to 5, and the first that fails.
+ghost use Prim.Native.Nat.{_≤_};
+ghost use lib.ListN.{length};
+ghost use Rattle.bits.specs.Truth.{Decides};
+ghost use Rattle.image.specs.Refusal.{First};
+ghost use Rattle.layout.specs.Layout.{headerBytes, Sized};
+ghost use Rattle.image.specs.Image.{Marked, Versioned, Ranged, byteRows};
+
+const MOST_SYMBOLS: usize = 64;
+
+const MOST_LEAVES: usize = 512;
+
+const MOST_PAIRS: usize = 256;
+
+fn marked(image: &[u8]) -> bool
+    requires { ⌜ headerBytes ≤ length (now image) ⌝ }
+    ensures { λ ok. ⌜ Decides ok (Marked (now (image .entry))) ⌝ }
+{
+    if image[0] != 0x45 {
+        return false;
+    }
+    if image[1] != 0x53 {
+        return false;
+    }
+    if image[2] != 0x47 {
+        return false;
+    }
+    true
+}
+
+fn versioned(image: &[u8]) -> bool
+    requires { ⌜ headerBytes ≤ length (now image) ⌝ }
+    ensures { λ ok. ⌜ Decides ok (Versioned (now (image .entry))) ⌝ }
+{
+    let version = layout::word_at(image, 3);
+    if version == 1 {
+        return true;
+    }
+    false
+}
+
+fn ranged(image: &[u8]) -> bool
+    requires { ⌜ headerBytes ≤ length (now image) ⌝ }
+    ensures { λ ok. ⌜ Decides ok (Ranged (now (image .entry))) ⌝ }
+{
+    let symbols = layout::byte_at(image, 5);
+    let leaves = layout::word_at(image, 6);
+    let pairs = layout::word_at(image, 8);
+    if symbols < 1 {
+        return false;
+    }
+    if MOST_SYMBOLS < symbols {
+        return false;
+    }
+    if MOST_LEAVES < leaves {
+        return false;
+    }
+    if MOST_PAIRS < pairs {
+        return false;
+    }
+    true
+}
+
+fn sized(image: &[u8]) -> bool
+    requires { ⌜ headerBytes ≤ length (now image) ⌝ }
+    ensures { λ ok. ⌜ Decides ok (Sized (now (image .entry))) ⌝ }
+{
+    let from = layout::rules_from(image);
+    let leaves = layout::word_at(image, 6);
+    let pairs = layout::word_at(image, 8);
+    if image.len() == from + 3 * (leaves + pairs) {
+        return true;
+    }
+    false
+}
+
+// Refusals 1 to 5, or 0.
+pub fn byte_refusal(image: &[u8]) -> u8
+    ensures { λ r. ⌜ First (byteRows (now (image .entry))) r ⌝ }
+{
+    if image.len() < layout::HEADER_BYTES {
+        return 1;
+    }
+    let two = marked(image);
+    if !two {
+        return 2;
+    }
+    let three = versioned(image);
+    if !three {
+        return 3;
+    }
+    let four = ranged(image);
+    if !four {
+        return 4;
+    }
+    let five = sized(image);
+    if !five {
+        return 5;
+    }
+    0
+}

@@ -1,0 +1,83 @@
+-- The bytes of a grammar image, and the grammar that they show, whatever they are.
+-- Assumes nothing.
+use Prim.Native.Nat.{ℕ, suc, zero, _+_, _*_, _≤_, _<_}
+use mathlib.Core.Path.{_≡_}
+use mathlib.Core.List.{List, [], _∷_, map}
+use lib.ListN.{length, getD}
+use Rattle.derivation.specs.Grammar.{EventRule, PairRule, Grammar, leafCount, ruleCount}
+
+-- ---- numbers
+abbrev pub byteAt : List ℕ → ℕ → ℕ
+byteAt b k = getD b k 0
+
+-- a 16-bit number, low byte first
+abbrev pub wordAt : List ℕ → ℕ → ℕ
+wordAt b k = byteAt b k + 256 * byteAt b (k + 1)
+
+-- ---- the header
+abbrev pub headerBytes : ℕ
+headerBytes = 10
+
+-- bytes 3 and 4 are the version, byte 5 is N, bytes 6 and 7 are L, bytes 8 and 9 are B
+abbrev pub versionIn : List ℕ → ℕ
+versionIn b = wordAt b 3
+
+abbrev pub symbolsIn : List ℕ → ℕ
+symbolsIn b = byteAt b 5
+
+abbrev pub leavesIn : List ℕ → ℕ
+leavesIn b = wordAt b 6
+
+abbrev pub pairsIn : List ℕ → ℕ
+pairsIn b = wordAt b 8
+
+-- ---- the rules: three bytes each, the event rules and then the pair rules
+-- where they begin, and where rule r stands
+unfoldable pub rulesFrom : List ℕ → ℕ
+rulesFrom b = headerBytes
+
+abbrev pub ruleAt : List ℕ → ℕ → ℕ
+ruleAt b r = rulesFrom b + 3 * r
+
+-- symbol, event
+abbrev pub eventRuleAt : List ℕ → ℕ → EventRule
+eventRuleAt b r = record { symbol = byteAt b (ruleAt b r); event = wordAt b (ruleAt b r + 1) }
+
+-- symbol, left symbol, right symbol
+abbrev pub pairRuleAt : List ℕ → ℕ → PairRule
+pairRuleAt b r = record { symbol = byteAt b (ruleAt b r); left = byteAt b (ruleAt b r + 1); right = byteAt b (ruleAt b r + 2) }
+
+-- the n numbers from i up
+unfoldable pub counting : ℕ → ℕ → List ℕ
+counting i zero = []
+counting i (suc n) = i ∷ counting (suc i) n
+
+-- event rules are numbered 0 to L - 1, pair rules L to L + B - 1
+unfoldable pub decode : List ℕ → Grammar
+decode b = record {
+  symbols = symbolsIn b;
+  leaves = map (eventRuleAt b) (counting 0 (leavesIn b));
+  pairs = map (pairRuleAt b) (counting (leavesIn b) (pairsIn b));
+}
+
+-- ---- what a function that reads rules asks: the header is there, all the rules are, and the one that it reads is among them
+-- the image ends where its rules do
+abbrev pub Sized : List ℕ → Type 0
+Sized b = length b ≡ rulesFrom b + 3 * (leavesIn b + pairsIn b)
+
+pub record Whole (b : List ℕ) : Type 0 where
+  pub long : headerBytes ≤ length b
+  pub sized : Sized b
+
+pub record HasRule (b : List ℕ) (r : ℕ) : Type 0 where
+  pub whole : Whole b
+  pub below : r < ruleCount (decode b)
+
+pub record HasLeaf (b : List ℕ) (r : ℕ) : Type 0 where
+  pub whole : Whole b
+  pub below : r < leafCount (decode b)
+
+pub record HasPair (b : List ℕ) (r : ℕ) : Type 0 where
+  pub whole : Whole b
+  pub from : leafCount (decode b) ≤ r
+  pub below : r < ruleCount (decode b)
