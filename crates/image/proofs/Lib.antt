@@ -1,5 +1,4 @@
 pub mod Refusals
-pub mod Keys
 pub mod Images
 pub mod Decided
 pub mod Long

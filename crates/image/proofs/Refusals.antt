@@ -1,14 +1,11 @@
 -- Laws of a refusal table: it admits one answer only; two tables, one after the other; what the answer 0 says.
 -- Assumes nothing.
-use Prim.Native.Nat.{ℕ, _≤_, _<_}
+use Prim.Native.Nat.{ℕ, _<_}
 use mathlib.Core.Path.{_≡_, refl, sym, _∙_}
 use mathlib.Core.Logic.{inl, inr, _≢_}
 use mathlib.Core.List.{List, [], _∷_, _++_}
-use native.Mathlib.Nat.{lt-irrefl, le-trans}
-use native.Mathlib.Decide.{decLt}
-use native.Mathlib.Omega.{arith}
-use Rattle.bits.specs.Truth.{Every}
-use Rattle.image.specs.Refusal.{Row, _unless_, FirstOf, First, FirstFault}
+use native.Mathlib.Nat.{lt-irrefl}
+use Rattle.image.specs.Refusal.{Row, _unless_, FirstOf, First}
 
 -- the three ways to an answer
 pub none : First [] 0
@@ -61,18 +58,3 @@ first-hit rows more {n} z p = record { is = hit rows more n z (p .is) }
 
 pub first-pass : (rows more : List Row) {n : ℕ} → AllHold rows → First more n → First (rows ++ more) n
 first-pass rows more {n} h p = record { is = past rows more n h (p .is) }
-
--- the first fault: there is one answer only, and it says whether there is a fault
-pub every-of : (m : ℕ) (P : ℕ → Type 0) (r : ℕ) → m ≤ r → FirstFault m P r → Every m P
-every-of m P r h f k l = f .before k (omega arith)
-
-pub not-every : (m : ℕ) (P : ℕ → Type 0) (r : ℕ) → r < m → FirstFault m P r → Every m P → ⊥
-not-every m P r h f all = f .fault h (all r h)
-
-pub fault-only : (m : ℕ) (P : ℕ → Type 0) (r s : ℕ) → FirstFault m P r → FirstFault m P s → r ≡ s
-fault-only m P r s f g = go (decLt r s) (decLt s r)
-  where
-    go : Dec (r < s) → Dec (s < r) → r ≡ s
-    go (yes p) q = absurd (f .fault (le-trans p (g .within)) (g .before r p))
-    go (no p) (yes q) = absurd (g .fault (le-trans q (f .within)) (f .before s q))
-    go (no p) (no q) = omega arith

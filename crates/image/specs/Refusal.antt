@@ -1,10 +1,9 @@
 -- Refusals: a table of demands in order, each with its number. What is given is the number of the first demand that fails, and 0 where none does.
 -- Assumes nothing.
-use Prim.Native.Nat.{ℕ, _≤_, _<_}
+use Prim.Native.Nat.{ℕ}
 use mathlib.Core.Path.{_≡_}
 use mathlib.Core.Logic.{_⊎_}
 use mathlib.Core.List.{List, [], _∷_}
-use Rattle.bits.specs.Truth.{Every}
 
 infix 3 _unless_
 -- a row of the table: the number, and what has to hold for it not to be given
@@ -19,9 +18,3 @@ FirstOf ((k unless P) ∷ rows) n = ((P → ⊥) × (n ≡ k)) ⊎ (P × FirstOf
 -- the same as a record, whose parameters antt infers
 pub record First (rows : List Row) (n : ℕ) : Type 0 where
   pub is : FirstOf rows n
-
--- r is the first number below m of which P fails, or m where there is none
-pub record FirstFault (m : ℕ) (P : ℕ → Type 0) (r : ℕ) : Type 0 where
-  pub within : r ≤ m
-  pub before : Every r P
-  pub fault : r < m → P r → ⊥

@@ -1,6 +1,5 @@
 // The grammar image: its test by refusals 1 to 7, and the test that every service over a record begins with.
-mod faults; // tests on rules
-mod refuse; // tests on the header
+mod refuse; // the rows of the refusal table
 
 ghost use mathlib.Core.Path.{_≡_};
 ghost use Prim.Native.Nat.{_≤_};
@@ -53,7 +52,7 @@ pub fn test_image(image: &[u8]) -> Tested
     if early != 0 {
         return refused(early);
     }
-    let late = faults::rule_refusal(image);
+    let late = refuse::rule_refusal(image);
     if late != 0 {
         return refused(late);
     }

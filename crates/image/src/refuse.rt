@@ -1,10 +1,11 @@
-// Tests on the bytes: one function for each demand of refusals 2 to 5, and the first that fails.
+// The rows of the refusal table: one function for each demand on the bytes, and the first row that applies.
+use rules::Demand;
 ghost use Prim.Native.Nat.{_≤_};
 ghost use lib.ListN.{length};
 ghost use Rattle.bits.specs.Truth.{Decides};
 ghost use Rattle.image.specs.Refusal.{First};
-ghost use Rattle.layout.specs.Layout.{headerBytes, Sized};
-ghost use Rattle.image.specs.Image.{Marked, Versioned, Ranged, byteRows};
+ghost use Rattle.layout.specs.Layout.{headerBytes, decode, Sized, Whole};
+ghost use Rattle.image.specs.Image.{Marked, Versioned, Ranged, byteRows, ruleRows};
 
 const MOST_SYMBOLS: usize = 64;
 
@@ -96,6 +97,23 @@ pub fn byte_refusal(image: &[u8]) -> u8
     let five = sized(image);
     if !five {
         return 5;
+    }
+    0
+}
+
+// Refusals 6 and 7, or 0.
+pub fn rule_refusal(image: &[u8]) -> u8
+    requires { ⌜ Whole (now image) ⌝ }
+    ensures { λ n. ⌜ First (ruleRows (decode (now (image .entry)))) n ⌝ }
+{
+    let count = layout::rule_count(image);
+    let unfit = rules::first_fault(image, Demand::Fits);
+    if unfit < count {
+        return 6;
+    }
+    let low = rules::first_fault(image, Demand::Above);
+    if low < count {
+        return 7;
     }
     0
 }

@@ -7,9 +7,9 @@ use borrow.Author.Count.{below-none, below-more}
 use Rattle.bits.specs.Truth.{Every}
 use Rattle.bits.proofs.Truths.{holds, fails}
 use Rattle.layout.specs.Layout.{decode}
-use Rattle.image.specs.Demand.{Passes}
-use Rattle.image.proofs.faults.first_fault.Statement.{statement}
-use Rattle.image.proofs.faults.first_fault.Tie as tie
+use Rattle.rules.specs.Fault.{Passes}
+use Rattle.rules.proofs.first_fault.Statement.{statement}
+use Rattle.rules.proofs.first_fault.Tie as tie
 
 abbrev Inv-loop : tie.InvT-loop
 Inv-loop image demand n r₀ r = (r ≤ n) × Every r (Passes demand (decode image))

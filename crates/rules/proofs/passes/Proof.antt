@@ -3,11 +3,11 @@
 use borrow.Author.Needs.{needs}
 use mathlib.Core.Path.{subst⁻¹}
 use Rattle.bits.specs.Truth.{Decides}
-use Rattle.image.specs.declared.faults.Demand.{Demand}
+use Rattle.rules.specs.declared.Demand.{Demand}
 use Rattle.layout.specs.Layout.{decode}
-use Rattle.image.specs.Demand.{Passes}
-use Rattle.image.proofs.faults.passes.Statement.{statement}
-use Rattle.image.proofs.faults.passes.Tie as tie
+use Rattle.rules.specs.Fault.{Passes}
+use Rattle.rules.proofs.passes.Statement.{statement}
+use Rattle.rules.proofs.passes.Tie as tie
 
 enum-told : tie.Need-enum-told
 enum-told c = search needs

@@ -2,9 +2,10 @@
 -- Assumes nothing.
 use borrow.Author.Needs.{needs}
 use native.Mathlib.Omega.{arith}
-use Rattle.image.proofs.Refusals.{none, fail, pass, every-of, not-every}
-use Rattle.image.proofs.faults.rule_refusal.Statement.{statement}
-use Rattle.image.proofs.faults.rule_refusal.Tie as tie
+use Rattle.rules.proofs.Faults.{every-of, not-every}
+use Rattle.image.proofs.Refusals.{none, fail, pass}
+use Rattle.image.proofs.refuse.rule_refusal.Statement.{statement}
+use Rattle.image.proofs.refuse.rule_refusal.Tie as tie
 
 rule-count-requires : tie.Need-rule-count-requires
 rule-count-requires c κs = search needs

@@ -1,16 +1,23 @@
--- What the tests on one rule promise to the tests on all. No service's contract mentions these.
+-- The demands on a rule, the first rule that is at fault, and what the tests on one rule promise to those on all.
 -- Assumes nothing.
 use Prim.Native.Nat.{ℕ, _+_, _-_, _*_, _≤_, _<_}
 use mathlib.Core.Path.{_≡_}
+use Rattle.bits.specs.Truth.{Every}
 use Rattle.derivation.specs.Grammar.{Grammar, leafCount, eventRule, pairRule, ruleSymbol}
 use Rattle.derivation.specs.Sound.{SymbolsFit, Rises}
-use Rattle.image.specs.declared.faults.Demand.{Demand}
-use Rattle.image.specs.declared.faults.Demand.the-variants.{Fits, Above}
+use Rattle.rules.specs.declared.Demand.{Demand}
+use Rattle.rules.specs.declared.Demand.the-variants.{Fits, Above}
 
 -- the two demands on a rule, by the code's names for them
 abbrev pub Passes : Demand → Grammar → ℕ → Type 0
 Passes Fits g r = SymbolsFit g r
 Passes Above g r = Rises g r
+
+-- r is the first number below m of which P fails, or m where there is none
+pub record FirstFault (m : ℕ) (P : ℕ → Type 0) (r : ℕ) : Type 0 where
+  pub within : r ≤ m
+  pub before : Every r P
+  pub fault : r < m → P r → ⊥
 
 -- s and e, and s, a and b, as one number k
 pub record LeafKey (s e k : ℕ) : Type 0 where

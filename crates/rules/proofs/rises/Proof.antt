@@ -4,9 +4,9 @@ use borrow.Author.Needs.{needs}
 use native.Mathlib.Omega.{arith}
 use mathlib.Core.Path.{_∙_}
 use Rattle.layout.specs.Layout.{decode}
-use Rattle.image.proofs.Keys.{keys-rise, keys-fall}
-use Rattle.image.proofs.faults.rises.Statement.{statement}
-use Rattle.image.proofs.faults.rises.Tie as tie
+use Rattle.rules.proofs.Keys.{keys-rise, keys-fall}
+use Rattle.rules.proofs.rises.Statement.{statement}
+use Rattle.rules.proofs.rises.Tie as tie
 
 returns : tie.Need-returns
 returns c = λ z n. absurd (omega arith)

@@ -4,8 +4,8 @@ use borrow.Author.Needs.{needs}
 use native.Mathlib.Omega.{arith}
 use Rattle.layout.specs.Layout.{decode}
 use Rattle.derivation.proofs.Sound.{symbol-highest, leaf-highest, pair-highest}
-use Rattle.image.proofs.faults.symbols_fit.Statement.{statement}
-use Rattle.image.proofs.faults.symbols_fit.Tie as tie
+use Rattle.rules.proofs.symbols_fit.Statement.{statement}
+use Rattle.rules.proofs.symbols_fit.Tie as tie
 
 symbol-count-requires : tie.Need-symbol-count-requires
 symbol-count-requires c κs = search needs

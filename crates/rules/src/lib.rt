@@ -1,11 +1,9 @@
-// Tests on rules: on one, on all, and refusals 6 and 7.
+// Tests on the rules of an image: that no symbol is N or more, and that each rule is above its predecessor of the same kind.
 ghost use Rattle.bits.specs.Truth.{Decides};
 ghost use Rattle.derivation.specs.Grammar.{ruleCount};
 ghost use Rattle.derivation.specs.Sound.{SymbolsFit, Rises};
-ghost use Rattle.image.specs.Refusal.{First, FirstFault};
 ghost use Rattle.layout.specs.Layout.{decode, Whole, HasRule};
-ghost use Rattle.image.specs.Demand.{KeyIs, Passes};
-ghost use Rattle.image.specs.Image.{ruleRows};
+ghost use Rattle.rules.specs.Fault.{KeyIs, Passes, FirstFault};
 
 // ---- one rule
 
@@ -89,7 +87,7 @@ fn passes(image: &[u8], r: usize, demand: Demand) -> bool
 }
 
 // The number of the first rule at fault, or the number of rules.
-fn first_fault(image: &[u8], demand: Demand) -> usize
+pub fn first_fault(image: &[u8], demand: Demand) -> usize
     requires { ⌜ Whole (now image) ⌝ }
     ensures { λ r. ⌜ FirstFault (ruleCount (decode (now (image .entry)))) (Passes demand (decode (now (image .entry)))) r ⌝ }
 {
@@ -104,21 +102,4 @@ fn first_fault(image: &[u8], demand: Demand) -> usize
         }
     }
     r
-}
-
-// Refusals 6 and 7, or 0.
-pub fn rule_refusal(image: &[u8]) -> u8
-    requires { ⌜ Whole (now image) ⌝ }
-    ensures { λ n. ⌜ First (ruleRows (decode (now (image .entry)))) n ⌝ }
-{
-    let count = layout::rule_count(image);
-    let unfit = first_fault(image, Demand::Fits);
-    if unfit < count {
-        return 6;
-    }
-    let low = first_fault(image, Demand::Above);
-    if low < count {
-        return 7;
-    }
-    0
 }
