@@ -1,3 +1,5 @@
+SHELL := bash
+.SHELLFLAGS := -o pipefail -c
 .PHONY: example test clean
 
 # Proves and builds the test of a grammar image, and runs it on an accepted image and on a damaged one.

@@ -16,7 +16,7 @@ use Rattle.derivation.specs.Grammar.{Grammar}
 use Rattle.derivation.specs.Tree.{Admitted, script}
 use Rattle.derivation.specs.Derivations.{join, gate, cross, leafAt, nodesAt, splitsAt, level, trees, derivations, readings, scripts, count, known}
 use Rattle.derivation.specs.Chart.{column, cellAt, cell, items, eventFirings, pairFirings, columnFirings, firings}
-use Rattle.derivation.specs.Examples.{chain, stop, Detail, reading, word, Example, example, DetailHolds, DetailsHold, Holds, examples}
+use Rattle.derivation.specs.Examples.{chain, stop, Detail, reading, word, Example, example, DetailHolds, DetailsHold, RowHolds, examples}
 use Rattle.derivation.proofs.Lists.{_∈_, truth}
 use Rattle.derivation.proofs.Counts.{known-of, of-known}
 
@@ -80,9 +80,9 @@ details-hold : (g : Grammar) (w : List ℕ) (ds : List Detail) → map (detail g
 details-hold g w [] e = tt
 details-hold g w (d ∷ ds) e = (detail-holds g w d (head-eq-of-cons-eq e), details-hold g w ds (tail-eq-of-cons-eq e))
 
-holds : (e : Example) → computed e ≡ stated e → Holds e
+row-holds : (e : Example) → computed e ≡ stated e → RowHolds e
 unfolding computed stated
-holds e q =
+row-holds e q =
     record {
       verdict = decided (e .grammar) (e .events) (e .verdict) (ap (λ (v : Values). v .verdict) q);
       items = ap (λ (v : Values). v .items) q;
@@ -92,5 +92,5 @@ holds e q =
     }
 
 -- every row marked P holds
-pub examples-hold : (e : Example) → e ∈ examples → Holds e
-examples-hold e m = holds e (at-element computed stated examples computes m)
+pub examples-hold : (e : Example) → e ∈ examples → RowHolds e
+examples-hold e m = row-holds e (at-element computed stated examples computes m)

@@ -58,7 +58,7 @@ abbrev pub DetailsHold : Grammar → List ℕ → List Detail → Type 0
 DetailsHold g w [] = Unit {0}
 DetailsHold g w (d ∷ ds) = DetailHolds g w d × DetailsHold g w ds
 
-pub record Holds (e : Example) : Type 0 where
+pub record RowHolds (e : Example) : Type 0 where
   pub verdict : Decides (e .verdict) (Admitted (e .grammar) (e .events))
   pub items : items (e .grammar) (e .events) ≡ e .items
   pub firings : firings (e .grammar) (e .events) ≡ e .firings

@@ -11,13 +11,13 @@ use Rattle.derivation.specs.Grammar.{Grammar}
 use Rattle.image.specs.declared.Tested.{Tested}
 use Rattle.image.specs.Refusal.{Row, FirstOf, First}
 use Rattle.layout.specs.Layout.{rulesFrom, decode, Whole}
-use Rattle.image.specs.Image.{byteRows, ruleRows, imageRows, Counts, Shows, TestedIs, Accepted, longestImage}
+use Rattle.image.specs.Image.{byteRows, ruleRows, imageRows, Gives, GivesCounts, TestedIs, Accepted, longestImage}
 use Rattle.image.proofs.Refusals.{AllHold, Positive, none, pass, first-only, first-zero, first-hit, first-pass}
 use Rattle.layout.proofs.Decoded.{leaf-count, pair-count, symbol-count}
 
 -- ---- one answer only
-counts-only : (t u : Tested) (N L B : ℕ) → t .number ≡ u .number → Counts t N L B → Counts u N L B → t ≡ u
-counts-only t u N L B e p q = λ i. record {
+gives-only : (t u : Tested) (N L B : ℕ) → t .number ≡ u .number → Gives t N L B → Gives u N L B → t ≡ u
+gives-only t u N L B e p q = λ i. record {
   number = e i;
   symbols = (p .symbols ∙ sym (q .symbols)) i;
   leaves = (p .leaves ∙ sym (q .leaves)) i;
@@ -31,11 +31,11 @@ tested-only {t = t} {u = u} p q = go (ℕ-discrete (t .number) 0)
     e = first-only (p .number) (q .number)
 
     go : Dec (t .number ≡ 0) → t ≡ u
-    go (yes z) = counts-only t u _ _ _ e (p .accepted z) (q .accepted (sym e ∙ z))
-    go (no z) = counts-only t u _ _ _ e (p .refused z) (q .refused (λ w. z (e ∙ w)))
+    go (yes z) = gives-only t u _ _ _ e (p .accepted z) (q .accepted (sym e ∙ z))
+    go (no z) = gives-only t u _ _ _ e (p .refused z) (q .refused (λ w. z (e ∙ w)))
 
 -- ---- what a test answers that refuses
-pub refusal : (rows : List Row) (g : Grammar) (t : Tested) (n : ℕ) → n ≢ 0 → First rows n → (t .number ≡ n) × Counts t 0 0 0 → TestedIs rows g t
+pub refusal : (rows : List Row) (g : Grammar) (t : Tested) (n : ℕ) → n ≢ 0 → First rows n → (t .number ≡ n) × Gives t 0 0 0 → TestedIs rows g t
 refusal rows g t n z p q = record {
   number = subst (First rows) (sym (q .0)) p;
   accepted = λ e. absurd (z (sym (q .0) ∙ e));
@@ -43,7 +43,7 @@ refusal rows g t n z p q = record {
 }
 
 -- and what one answers that accepts
-pub acceptance : (rows : List Row) (g : Grammar) (t : Tested) → First rows 0 → (t .number ≡ 0) × Shows t g → TestedIs rows g t
+pub acceptance : (rows : List Row) (g : Grammar) (t : Tested) → First rows 0 → (t .number ≡ 0) × GivesCounts t g → TestedIs rows g t
 acceptance rows g t p q = record {
   number = subst (First rows) (sym (q .0)) p;
   accepted = λ _. q .1;

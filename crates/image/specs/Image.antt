@@ -59,19 +59,19 @@ abbrev pub recordRows : List ℕ → ℕ → List Row
 recordRows b n = imageRows b ++ eventRows n
 
 -- ---- what a test by such rows answers: the first that applies with zeros, or 0 with N, L and B
-pub record Counts (t : Tested) (N L B : ℕ) : Type 0 where
+pub record Gives (t : Tested) (N L B : ℕ) : Type 0 where
   pub symbols : t .symbols ≡ N
   pub leaves : t .leaves ≡ L
   pub pairs : t .pairs ≡ B
 
 -- N, L and B of the grammar
-abbrev pub Shows : Tested → Grammar → Type 0
-Shows t g = Counts t (g .symbols) (leafCount g) (pairCount g)
+abbrev pub GivesCounts : Tested → Grammar → Type 0
+GivesCounts t g = Gives t (g .symbols) (leafCount g) (pairCount g)
 
 pub record TestedIs (rows : List Row) (g : Grammar) (t : Tested) : Type 0 where
   pub number : First rows (t .number)
-  pub accepted : t .number ≡ 0 → Shows t g
-  pub refused : t .number ≢ 0 → Counts t 0 0 0
+  pub accepted : t .number ≡ 0 → GivesCounts t g
+  pub refused : t .number ≢ 0 → Gives t 0 0 0
 
 -- ---- what 1 to 7 let pass, neither more nor less
 pub record Accepted (b : List ℕ) : Type 0 where

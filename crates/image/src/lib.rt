@@ -5,7 +5,7 @@ ghost use mathlib.Core.Path.{_≡_};
 ghost use Prim.Native.Nat.{_≤_};
 ghost use lib.ListN.{length};
 ghost use Rattle.layout.specs.Layout.{headerBytes, decode};
-ghost use Rattle.image.specs.Image.{imageRows, recordRows, Counts, Shows, TestedIs};
+ghost use Rattle.image.specs.Image.{imageRows, recordRows, Gives, GivesCounts, TestedIs};
 
 // The most events that a record may have.
 pub const MOST_EVENTS: usize = 64;
@@ -19,7 +19,7 @@ pub struct Tested {
 }
 
 fn refused(number: u8) -> Tested
-    ensures { λ t. ⌜ (t .number ≡ number) × Counts t 0 0 0 ⌝ }
+    ensures { λ t. ⌜ (t .number ≡ number) × Gives t 0 0 0 ⌝ }
 {
     Tested {
         number: number,
@@ -31,7 +31,7 @@ fn refused(number: u8) -> Tested
 
 fn accepted(image: &[u8]) -> Tested
     requires { ⌜ headerBytes ≤ length (now image) ⌝ }
-    ensures { λ t. ⌜ (t .number ≡ 0) × Shows t (decode (now (image .entry))) ⌝ }
+    ensures { λ t. ⌜ (t .number ≡ 0) × GivesCounts t (decode (now (image .entry))) ⌝ }
 {
     let symbols = layout::symbol_count(image);
     let leaves = layout::leaf_count(image);
