@@ -1,14 +1,14 @@
 -- Laws of a word's bits: each is 0 or 1; bit 0 and the bits above it; what `put` changes.
 -- Assumes nothing.
 use mathlib.Core.Path.{_≡_, sym, ap, _∙_}
-use Prim.Native.Nat.{ℕ, zero, suc, _*_, _/_, _%_, _^_, _≤_, _<_, max}
-use native.Mathlib.Nat.{mul-add-mod-self-right, mod-eq-of-lt, mod-lt, mul-one, mul-zero, zero-mul, div-one, div-eq-of-lt, zero-div, zero-lt-suc, lt-of-lt-of-le, lt-of-not-le}
+use Prim.Native.Nat.{ℕ, zero, suc, _*_, _/_, _%_, _^_, _≤_, _<_, max, min}
+use native.Mathlib.Nat.{mul-add-mod-self-right, mod-eq-of-lt, mod-lt, mul-one, one-mul, mul-zero, zero-mul, div-one, div-eq-of-lt, zero-div, zero-lt-suc, lt-of-lt-of-le, lt-of-not-le}
 use native.Mathlib.Numerals.{one-add}
 use native.Mathlib.Omega.{arith}
-use lib.Bits.{bitOr, or-zero-r, or-step, or-shr, shifted-even, shifted-half}
+use lib.Bits.{bitAnd, bitOr, or-zero-l, or-zero-r, and-step, and-shr, or-step, or-shr, shifted-even, shifted-half}
 use lib.Pow.{shr-shr, pow-mono}
 use Rattle.bits.specs.Truth.{same}
-use Rattle.bits.specs.Bit.{bit, put}
+use Rattle.bits.specs.Bit.{bit, put, meet}
 
 pub bit-lt : (w a : ℕ) → bit w a < 2
 unfolding bit
@@ -34,7 +34,7 @@ bit-high k w b l h = ap (λ (x : ℕ). x % 2) (div-eq-of-lt (lt-of-lt-of-le l (p
 pub bit-small : (w b : ℕ) → w < 2 ^ 64 → bit w b ≡ 1 → b < 64
 bit-small w b l h = lt-of-not-le (λ g. omega (arith, bit-high 64 w b l g))
 
-bit-or : (x y a : ℕ) → bit (bitOr x y) a ≡ max (bit x a) (bit y a)
+pub bit-or : (x y a : ℕ) → bit (bitOr x y) a ≡ max (bit x a) (bit y a)
 unfolding bit
 bit-or x y a =
     ap (λ (z : ℕ). z % 2) (or-shr x y a ∙ or-step (x / 2 ^ a) (y / 2 ^ a)) ∙ mul-add-mod-self-right _ 2 _
@@ -43,7 +43,7 @@ bit-or x y a =
     max-lt : {p q : ℕ} → p < 2 → q < 2 → max p q < 2
     max-lt l m = omega arith
 
-bit-shift : (h a b : ℕ) → h < 2 → bit (h * 2 ^ a) b ≡ h * same a b
+pub bit-shift : (h a b : ℕ) → h < 2 → bit (h * 2 ^ a) b ≡ h * same a b
 unfolding same
 bit-shift h zero zero l = bit-zero (h * 1) ∙ ap (λ (x : ℕ). x % 2) (mul-one h) ∙ mod-eq-of-lt l ∙ sym (mul-one h)
 bit-shift h zero (suc b) l =
@@ -59,3 +59,24 @@ bit-put w a h b l = bit-or w (h * 2 ^ a) b ∙ ap (max (bit w b)) (bit-shift h a
 pub put-none : (w a : ℕ) → put w a 0 ≡ w
 unfolding put
 put-none w a = ap (bitOr w) (zero-mul (2 ^ a)) ∙ or-zero-r w
+
+-- ---- a word of one bit
+pub bit-and : (x y a : ℕ) → bit (bitAnd x y) a ≡ min (bit x a) (bit y a)
+unfolding bit
+bit-and x y a =
+    ap (λ (z : ℕ). z % 2) (and-shr x y a ∙ and-step (x / 2 ^ a) (y / 2 ^ a)) ∙ mul-add-mod-self-right _ 2 _
+    ∙ mod-eq-of-lt (min-lt (bit-lt x a) (bit-lt y a))
+  where
+    min-lt : {p q : ℕ} → p < 2 → q < 2 → min p q < 2
+    min-lt l m = omega arith
+
+pub bit-one : (a b : ℕ) → bit (2 ^ a) b ≡ same a b
+bit-one a b = ap (λ (x : ℕ). bit x b) (sym (one-mul (2 ^ a))) ∙ bit-shift 1 a b (omega arith) ∙ one-mul (same a b)
+
+pub put-alone : (a : ℕ) → put 0 a 1 ≡ 2 ^ a
+unfolding put
+put-alone a = or-zero-l _ ∙ one-mul (2 ^ a)
+
+pub meet-lt : (v w : ℕ) → meet v w < 2
+unfolding meet
+meet-lt v w = omega arith

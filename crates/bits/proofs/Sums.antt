@@ -2,11 +2,14 @@
 -- Assumes nothing.
 use mathlib.Core.Path.{_≡_, refl, sym, ap, ap₂, _∙_, subst}
 use mathlib.Core.Logic.{⊎-elim}
-use Prim.Native.Nat.{ℕ, zero, suc, _+_, _-_, _*_, _≤_, _<_, min, zero-le}
-use native.Mathlib.Nat.{le-step, lt-suc-self, add-zero, add-suc, mul-zero, mul-pos, zero-lt-suc, not-suc-le-zero, le-of-suc-le-suc, eq-or-lt-of-le}
+use Prim.Native.Nat.{ℕ, zero, suc, _+_, _-_, _*_, _≤_, _<_, min, max, zero-le}
+use native.Mathlib.Nat.{le-refl, zero-add, mul-one, le-step, lt-suc-self, add-zero, add-suc, mul-zero, mul-pos, zero-lt-suc, not-suc-le-zero, le-of-suc-le-suc, eq-or-lt-of-le}
 use native.Mathlib.Numerals.{add-one}
+use native.Mathlib.Decide.{ℕ-discrete}
 use native.Mathlib.Omega.{arith}
+use Rattle.bits.specs.Truth.{same}
 use Rattle.bits.specs.Sum.{sum, between}
+use Rattle.bits.proofs.Truths.{same-eq, same-other, same-lt}
 
 -- ---- sums
 pub sum-more : (n : ℕ) (f : ℕ → ℕ) → sum (n + 1) f ≡ sum n f + f n
@@ -67,6 +70,38 @@ sum-room (suc n) f r m h l =
     ⊎-elim (λ (e : r ≡ n). subst (λ (q : ℕ). sum r f + m < sum q f + f q) e (omega arith))
     (λ (q : r < n). omega (arith, sum-room n f r m q l)) (eq-or-lt-of-le (le-of-suc-le-suc h))
 
+-- and so is the part up to a term with that term
+pub sum-upto : (n : ℕ) (f : ℕ → ℕ) (r : ℕ) → r < n → sum r f + f r ≤ sum n f
+unfolding sum
+sum-upto zero f r h = absurd (not-suc-le-zero h)
+sum-upto (suc n) f r h =
+    ⊎-elim (λ (e : r ≡ n). subst (λ (q : ℕ). sum r f + f r ≤ sum q f + f q) e (le-refl _))
+    (λ (q : r < n). omega (arith, sum-upto n f r q)) (eq-or-lt-of-le (le-of-suc-le-suc h))
+
+-- one term that counts
+pub sum-at : (n x : ℕ) (F : ℕ → ℕ) → x < n → sum n (λ s. F s * same x s) ≡ F x
+unfolding sum
+sum-at zero x F h = absurd (not-suc-le-zero h)
+sum-at (suc n) x F h =
+    ⊎-elim
+    (λ (e : x ≡ n).
+    let z : sum n (λ s. F s * same x s) ≡ 0 = sum-zero n _ (λ s l. ap (λ (y : ℕ). F s * y) (same-other x s (λ q. omega arith)) ∙ mul-zero (F s)) in
+    ap₂ _+_ z (ap (λ (y : ℕ). F n * y) (same-eq x n e) ∙ mul-one (F n)) ∙ zero-add (F n) ∙ ap F (sym e))
+    (λ (l : x < n). ap₂ _+_ (sum-at n x F l) (ap (λ (y : ℕ). F n * y) (same-other x n (λ q. omega arith)) ∙ mul-zero (F n)) ∙ add-zero (F x))
+    (eq-or-lt-of-le (le-of-suc-le-suc h))
+
+-- no number equals two others
+pub sum-one : (n x : ℕ) → sum n (same x) ≤ 1
+unfolding sum
+sum-one zero x = zero-le
+sum-one (suc n) x =
+    elim (ℕ-discrete x n) [
+      | yes e ↦
+          let z : sum n (same x) ≡ 0 = sum-zero n (same x) (λ s l. same-other x s (λ q. omega arith)) in
+          omega (arith, same-lt x n)
+      | no e ↦ omega (arith, sum-one n x, same-other x n e)
+    ]
+
 -- ---- sums between two numbers
 pub between-none : (i k : ℕ) (f : ℕ → ℕ) → k ≤ i + 1 → between i k f ≡ 0
 unfolding between sum
@@ -124,3 +159,16 @@ some-mul (suc x) (suc y) =
 
 pub some-once : (x : ℕ) → min 1 (min 1 x) ≡ min 1 x
 some-once x = omega arith
+
+-- one term more of a sum that was turned into "some"
+pub some-add : (s t : ℕ) → t ≤ 1 → max (min 1 s) t ≡ min 1 (s + t)
+some-add s t l = omega arith
+
+pub some-more : (b s t : ℕ) → t ≤ 1 → max (max b (min 1 s)) t ≡ max b (min 1 (s + t))
+some-more b s t l = omega arith
+
+pub some-left : (b s x : ℕ) → x ≡ max b (min 1 s) → (t : ℕ) → max x (min 1 t) ≡ max b (min 1 (s + t))
+some-left b s x e t = omega arith
+
+pub some-join : (x s t : ℕ) → x ≡ min 1 s → max x (min 1 t) ≡ min 1 (s + t)
+some-join x s t e = omega arith

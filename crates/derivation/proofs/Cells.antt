@@ -34,6 +34,10 @@ module _ (g : Grammar) (w : List ℕ) where
   pub cell-high : (i k A : ℕ) → g .symbols ≤ A → bit (cell g w i k) A ≡ 0
   cell-high i k A h = bit-high (g .symbols) (cell g w i k) A (cell-lt i k) h
 
+  -- no symbol from N up is derivable
+  pub known-high : Sound g → (i k A : ℕ) → g .symbols ≤ A → known g w A i k ≡ 0
+  known-high s i k A h = known-tells g w A i k .no (λ d. omega (arith, derives-fits g s w A i k (d .0) (d .1)))
+
   -- of a sound grammar a bit is one exactly when its symbol is derivable, whatever the symbol
   pub cell-tells : Sound g → (i k A : ℕ) → Tells g w A i k (bit (cell g w i k) A)
   cell-tells s i k A =

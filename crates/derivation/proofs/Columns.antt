@@ -50,6 +50,11 @@ cells-mono m n h =
     ⊎-elim (λ (e : m ≡ n). rw e (le-refl (cells n)))
     (λ (l : m < n). omega (arith, cells-column m, cells-column n, column-mono (m + 1) (n + 1) (omega arith))) (eq-or-lt-of-le h)
 
+-- the cells of a record can be counted with 32 bits
+pub cells-small : (n : ℕ) → n < 65536 → cells n < 4294967296
+unfolding cells
+cells-small n h = omega (arith, product-small n (n + 1) (omega arith) (omega arith))
+
 -- a cell of a record of n events is one of its words
 pub cell-within : (n i k : ℕ) → i < k → k ≤ n → cellAt i k < cells n
 cell-within n i k h l = omega (arith, cells-column n, column-mono k (n + 1) (omega arith))

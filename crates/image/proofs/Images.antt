@@ -1,6 +1,6 @@
 -- Laws of the two tests: one answer only, what the answer 0 gives, and how a service goes on from them.
 -- Assumes nothing.
-use Prim.Native.Nat.{ℕ, _+_, _≤_}
+use Prim.Native.Nat.{ℕ, _≤_}
 use native.Mathlib.Decide.{ℕ-discrete}
 use native.Mathlib.Omega.{arith}
 use mathlib.Core.Path.{_≡_, sym, _∙_, subst}
@@ -11,8 +11,8 @@ use Rattle.derivation.specs.Grammar.{Grammar}
 use Rattle.image.specs.declared.Tested.{Tested}
 use Rattle.image.specs.Refusal.{Row, FirstOf, First}
 use Rattle.layout.specs.Layout.{rulesFrom, decode, Whole}
-use Rattle.image.specs.Image.{byteRows, ruleRows, imageRows, Gives, GivesCounts, TestedIs, Accepted, longestImage}
-use Rattle.image.proofs.Refusals.{AllHold, Positive, none, pass, first-only, first-zero, first-hit, first-pass}
+use Rattle.image.specs.Image.{mostEvents, byteRows, ruleRows, eventRows, imageRows, recordRows, Gives, GivesCounts, TestedIs, Accepted, longestImage}
+use Rattle.image.proofs.Refusals.{AllHold, Positive, none, pass, first-only, first-zero, all-front, all-back, first-hit, first-pass}
 use Rattle.layout.proofs.Decoded.{leaf-count, pair-count, symbol-count}
 
 -- ---- one answer only
@@ -68,12 +68,9 @@ module _ (b : List ℕ) (n : ℕ) (e : n ≡ 0) (p : First (byteRows b) n) where
 
 -- ---- what is accepted
 module _ (b : List ℕ) where
-  images-hold : (n : ℕ) → n ≡ 0 → First (imageRows b) n → AllHold (imageRows b)
-  images-hold = all-hold (imageRows b) (omega arith)
-
-  pub accepted : First (imageRows b) 0 → Accepted b
-  accepted p =
-      let h = first-zero (imageRows b) (omega arith) (p .is) in
+  -- from every demand on it
+  holding : AllHold (imageRows b) → Accepted b
+  holding h =
       let q = h .1 .1 .1 .0 in
       record {
         marked = h .1 .0;
@@ -90,6 +87,9 @@ module _ (b : List ℕ) where
           rising = h .1 .1 .1 .1 .1 .1 .0;
         };
       }
+
+  pub accepted : First (imageRows b) 0 → Accepted b
+  accepted p = holding (first-zero (imageRows b) (omega arith) (p .is))
 
   pub accepted-back : Accepted b → First (imageRows b) 0
   accepted-back a =
@@ -112,6 +112,12 @@ module _ (b : List ℕ) where
 
   pub tested-accepted : (t : Tested) → TestedIs (imageRows b) (decode b) t → t .number ≡ 0 → Accepted b
   tested-accepted t p e = accepted (subst (First (imageRows b)) e (p .number))
+
+  -- the test of a record says the same, and that the events are not too many
+  pub record-accepted : (n : ℕ) (t : Tested) → TestedIs (recordRows b n) (decode b) t → t .number ≡ 0 → Accepted b × (n ≤ mostEvents)
+  record-accepted n t p e =
+      let h = all-hold (recordRows b n) (omega arith) (t .number) e (p .number) in
+      (holding (all-front (imageRows b) (eventRows n) h), all-back (imageRows b) (eventRows n) h .0)
 
 -- ---- for the test of a record, and for the services above: a table is the one before it and more rows
 module _ (rows more : List Row) {g : Grammar} (t : Tested) (p : TestedIs rows g t) where

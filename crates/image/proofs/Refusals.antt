@@ -43,6 +43,16 @@ first-zero [] z p = tt
 first-zero ((k unless P) ∷ rows) z (inl p) = absurd (lt-irrefl 0 (rw (← (p .1)) at (z .0)))
 first-zero ((k unless P) ∷ rows) z (inr p) = (p .0, first-zero rows (z .1) (p .1))
 
+-- two tables, one after the other, ask what the first asks
+pub all-front : (rows more : List Row) → AllHold (rows ++ more) → AllHold rows
+all-front [] more h = tt
+all-front ((k unless P) ∷ rows) more h = (h .0, all-front rows more (h .1))
+
+-- and what the second asks
+pub all-back : (rows more : List Row) → AllHold (rows ++ more) → AllHold more
+all-back [] more h = h
+all-back ((k unless P) ∷ rows) more h = all-back rows more (h .1)
+
 -- a refusal by the first table is one by both; past the first table the second decides
 hit : (rows more : List Row) (n : ℕ) → n ≢ 0 → FirstOf rows n → FirstOf (rows ++ more) n
 hit [] more n z p = absurd (z p)

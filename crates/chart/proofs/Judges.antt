@@ -1,0 +1,121 @@
+-- Laws of `JudgeIs`: a filled chart gives the answer, and only one outcome meets the record, result and every word of the chart.
+-- Assumes nothing.
+use mathlib.Core.Path.{_≡_, sym, ap, _∙_, subst⁻¹}
+use mathlib.Core.Logic.{_≢_}
+use mathlib.Core.Bool.{false}
+use mathlib.Core.List.{List}
+use Prim.Native.Nat.{ℕ, _≤_, _<_}
+use native.Mathlib.Nat.{lt-of-not-le, le-refl}
+use native.Mathlib.Decide.{ℕ-discrete, decLe}
+use lib.ListN.{length, getD}
+use lib.Seq.{ext-getD}
+use Rattle.bits.specs.Truth.{Decides}
+use Rattle.bits.specs.Bit.{bit}
+use Rattle.bits.proofs.Truths.{decides-as, decides-only}
+use Rattle.bits.proofs.Words.{same-bits}
+use Rattle.derivation.specs.Grammar.{Grammar, pairCount}
+use Rattle.derivation.specs.Sound.{Sound}
+use Rattle.derivation.specs.Tree.{Admitted}
+use Rattle.derivation.specs.Numbering.{Tells}
+use Rattle.derivation.specs.Chart.{cellAt, cells, firingsBound}
+use Rattle.derivation.proofs.Exact.{some-events}
+use Rattle.derivation.proofs.Counts.{known-of, of-known}
+use Rattle.derivation.proofs.Numbering.{known-tells, tells-only}
+use Rattle.derivation.proofs.Columns.{cell-of}
+use Rattle.derivation.proofs.Bound.{firings-le}
+use Rattle.layout.specs.Layout.{decode}
+use Rattle.image.specs.Refusal.{First}
+use Rattle.image.proofs.Refusals.{first-only}
+use Rattle.chart.specs.declared.Judged.{Judged}
+use Rattle.chart.specs.Fill.{rd, Columns, onesTo}
+use Rattle.chart.specs.Judge.{judgeRows, Shows, Answered, JudgeIs}
+use Rattle.chart.proofs.Bridge.{chart-shows, firings-are, items-are}
+
+-- ---- from the columns to the answer
+module _ (g : Grammar) (ok : Sound g) (w c₀ c : List ℕ) (m : ℕ) (whole : Columns g w c₀ c (length w) m) where
+  shows : Shows g w c
+  shows = record { at = λ A i k h l. subst⁻¹ (Tells g w A i k) (chart-shows g w c₀ c m whole A i k h l) (known-tells g w A i k) }
+
+  -- the start symbol in the cell of the whole record
+  verdict : (0 < length w) × (bit (rd c 0 (length w)) 0 ≡ 1) → Admitted g w
+  verdict p = of-known g w 0 0 (length w) (sym (chart-shows g w c₀ c m whole 0 0 (length w) (p .0) (le-refl (length w))) ∙ p .1)
+
+  verdict-back : Admitted g w → (0 < length w) × (bit (rd c 0 (length w)) 0 ≡ 1)
+  verdict-back d =
+      let s = some-events g w 0 0 (length w) (d .0) (d .1) in
+      (s, chart-shows g w c₀ c m whole 0 0 (length w) s (le-refl (length w)) ∙ known-of g w 0 0 (length w) d)
+
+  pub answer : (r : Judged) → length c ≡ length c₀ → Decides (r .admitted) ((0 < length w) × (bit (rd c 0 (length w)) 0 ≡ 1))
+      → r .items ≡ onesTo c (cells (length w)) → r .firings ≡ m → Answered g w c₀ r c
+  answer r l a i f = record {
+    chart = shows;
+    past = whole .past;
+    long = l;
+    admitted = decides-as (r .admitted) verdict verdict-back a;
+    items = i ∙ items-are g w c₀ c m whole ok;
+    firings = f ∙ firings-are g w c₀ c m whole;
+    bound = subst⁻¹ (λ (x : ℕ). x ≤ firingsBound (length w) (g .symbols) (pairCount g)) (f ∙ firings-are g w c₀ c m whole) (firings-le g w ok);
+  }
+
+-- ---- what a refusal answers, and what success does
+module _ (b w c₀ c : List ℕ) (r : Judged) where
+  pub refusal : (n : ℕ) → n ≢ 0 → First (judgeRows b w c₀) n → r ≡ record { number = n; admitted = false; items = 0; firings = 0 } → c ≡ c₀
+      → JudgeIs b w c₀ r c
+  refusal n z p e k = record {
+    number = subst⁻¹ (First (judgeRows b w c₀)) (ap (λ (t : Judged). t .number) e) p;
+    refused = λ _. record {
+      admitted = ap (λ (t : Judged). t .admitted) e;
+      items = ap (λ (t : Judged). t .items) e;
+      firings = ap (λ (t : Judged). t .firings) e;
+      kept = k;
+    };
+    answered = λ y. absurd (z (ap (λ (t : Judged). t .number) (sym e) ∙ y));
+  }
+
+  pub success : r .number ≡ 0 → First (judgeRows b w c₀) 0 → Answered (decode b) w c₀ r c → JudgeIs b w c₀ r c
+  success z p a = record {
+    number = subst⁻¹ (First (judgeRows b w c₀)) z p;
+    refused = λ y. absurd (y z);
+    answered = λ _. a;
+  }
+
+-- ---- one outcome only
+module _ (g : Grammar) (w c d : List ℕ) (p : Shows g w c) (q : Shows g w d) where
+  cell-only : (i k : ℕ) → i < k → k ≤ length w → getD c (cellAt i k) 0 ≡ getD d (cellAt i k) 0
+  cell-only i k h l =
+      same-bits _ _ (λ A. tells-only g w A i k _ (p .at A i k h l) ∙ sym (tells-only g w A i k _ (q .at A i k h l)))
+
+  shows-only : (y : ℕ) → y < cells (length w) → getD c y 0 ≡ getD d y 0
+  shows-only y h = let e = cell-of (length w) y h in rw (e .is) (cell-only (e .i) (e .k) (e .lt) (e .le))
+
+judged-eq : (r s : Judged) → r .number ≡ s .number → r .admitted ≡ s .admitted → r .items ≡ s .items → r .firings ≡ s .firings → r ≡ s
+judged-eq r s a b c d = λ i. record { number = a i; admitted = b i; items = c i; firings = d i }
+
+module _ (b w c₀ : List ℕ) (r s : Judged) (c d : List ℕ) where
+  chart-only : Answered (decode b) w c₀ r c → Answered (decode b) w c₀ s d → c ≡ d
+  chart-only p q = ext-getD 0 c d (p .long ∙ sym (q .long)) (λ y l. go y (decLe (cells (length w)) y))
+    where
+      go : (y : ℕ) → Dec (cells (length w) ≤ y) → getD c y 0 ≡ getD d y 0
+      go y (yes h) = p .past y h ∙ sym (q .past y h)
+      go y (no h) = shows-only (decode b) w c d (p .chart) (q .chart) y (lt-of-not-le h)
+
+  -- the result, and every word of the chart
+  pub judge-only : JudgeIs b w c₀ r c → JudgeIs b w c₀ s d → (r ≡ s) × (c ≡ d)
+  judge-only p q = go (ℕ-discrete (r .number) 0)
+    where
+      e : r .number ≡ s .number
+      e = first-only (p .number) (q .number)
+
+      go : Dec (r .number ≡ 0) → (r ≡ s) × (c ≡ d)
+      go (yes z) =
+          let x = p .answered z in
+          let y = q .answered (sym e ∙ z) in (
+            judged-eq r s e (decides-only (Admitted (decode b) w) (r .admitted) (s .admitted) (x .admitted) (y .admitted)) (x .items ∙ sym (y .items)) (x .firings ∙ sym (y .firings)),
+            chart-only x y,
+          )
+      go (no z) =
+          let x = p .refused z in
+          let y = q .refused (λ n. z (e ∙ n)) in (
+            judged-eq r s e (x .admitted ∙ sym (y .admitted)) (x .items ∙ sym (y .items)) (x .firings ∙ sym (y .firings)),
+            x .kept ∙ sym (y .kept),
+          )

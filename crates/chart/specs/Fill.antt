@@ -1,0 +1,65 @@
+-- The filler in its own terms: 01's two rules applied to the words of the chart as they stand. No derivation is mentioned here;
+-- `proofs/Bridge` shows that words filled like this are the chart of the definitions.
+-- Assumes nothing.
+use mathlib.Core.Path.{_≡_}
+use mathlib.Core.Logic.{_≢_}
+use mathlib.Core.List.{List}
+use Prim.Native.Nat.{ℕ, _+_, _≤_, _<_, min}
+use lib.ListN.{length, getD}
+use Rattle.bits.specs.Sum.{sum, between}
+use Rattle.bits.specs.Bit.{bit}
+use Rattle.derivation.specs.Grammar.{Grammar}
+use Rattle.derivation.specs.Chart.{cellAt, cells, eventFirings}
+use Rattle.kernel.specs.Fire.{hits, conclusions, leafConclusions}
+use Rattle.kernel.specs.declared.Fired.{Fired}
+
+-- the word of cell (i, k)
+abbrev pub rd : List ℕ → ℕ → ℕ → ℕ
+rd c i k = getD c (cellAt i k) 0
+
+-- ---- a cell of more than one event
+-- how many pairs of a rule and a split j, i < j < k, have both premises in the words of (i, j) and (j, k); and how many of them conclude A
+unfoldable pub cellHits : Grammar → List ℕ → (i k : ℕ) → ℕ
+cellHits g c i k = between i k (λ j. hits g (rd c i j) (rd c j k))
+
+unfoldable pub cellConclusions : Grammar → List ℕ → (i k A : ℕ) → ℕ
+cellConclusions g c i k A = between i k (λ j. conclusions g (rd c i j) (rd c j k) A)
+
+-- f is the word of cell (i, k): bit A is one exactly where some rule and split conclude A
+pub record CellIs (g : Grammar) (c : List ℕ) (i k : ℕ) (f : Fired) : Type 0 where
+  pub word : (A : ℕ) → bit (f .word) A ≡ min 1 (cellConclusions g c i k A)
+  pub count : f .count ≡ cellHits g c i k
+
+-- before became after: cell (i, k) is worked out from the other words, of which none changed
+pub record CellFilled (g : Grammar) (i k : ℕ) (before after : List ℕ) (n : ℕ) : Type 0 where
+  pub long : length after ≡ length before
+  pub other : (y : ℕ) → y ≢ cellAt i k → getD after y 0 ≡ getD before y 0
+  pub word : (A : ℕ) → bit (rd after i k) A ≡ min 1 (cellConclusions g before i k A)
+  pub count : n ≡ cellHits g before i k
+
+-- ---- columns: column q is cells (0, q + 1) to (q, q + 1)
+-- the cell of one event comes from the event rules, the others from the rest of the chart
+pub record Column (g : Grammar) (e : ℕ) (c : List ℕ) (q : ℕ) : Type 0 where
+  pub leaf : (A : ℕ) → bit (rd c q (q + 1)) A ≡ min 1 (leafConclusions g e A)
+  pub inner : (i : ℕ) → i < q → (A : ℕ) → bit (rd c i (q + 1)) A ≡ min 1 (cellConclusions g c i (q + 1) A)
+
+-- its firings
+unfoldable pub columnHits : Grammar → ℕ → List ℕ → ℕ → ℕ
+columnHits g e c q = eventFirings g e + sum q (λ i. cellHits g c i (q + 1))
+
+-- column q is worked out from the older columns' words as they stand, n its firings: no other word changed
+pub record ColumnFilled (g : Grammar) (e : ℕ) (before after : List ℕ) (q n : ℕ) : Type 0 where
+  pub column : Column g e after q
+  pub counted : n ≡ columnHits g e after q
+  pub low : (y : ℕ) → y < cellAt 0 (q + 1) → getD after y 0 ≡ getD before y 0
+  pub past : (y : ℕ) → cellAt q (q + 1) < y → getD after y 0 ≡ getD before y 0
+
+-- the first n columns filled, m their firings
+pub record Columns (g : Grammar) (w before after : List ℕ) (n m : ℕ) : Type 0 where
+  pub column : (q : ℕ) → q < n → Column g (getD w q 0) after q
+  pub counted : m ≡ sum n (λ q. columnHits g (getD w q 0) after q)
+  pub past : (y : ℕ) → cells n ≤ y → getD after y 0 ≡ getD before y 0
+
+-- ---- the one bits of the first n words
+unfoldable pub onesTo : List ℕ → ℕ → ℕ
+onesTo c n = sum n (λ y. sum 64 (bit (getD c y 0)))

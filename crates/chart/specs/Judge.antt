@@ -1,0 +1,51 @@
+-- What `judge` answers and what it leaves in the lent chart, for any image b, any events w and any chart.
+-- Assumes nothing.
+use mathlib.Core.Path.{_≡_}
+use mathlib.Core.Logic.{_≢_}
+use mathlib.Core.Bool.{false}
+use mathlib.Core.List.{List, [], _∷_, _++_}
+use Prim.Native.Nat.{ℕ, _≤_, _<_}
+use lib.ListN.{length, getD}
+use Rattle.bits.specs.Truth.{Decides}
+use Rattle.bits.specs.Bit.{bit}
+use Rattle.derivation.specs.Grammar.{Grammar, pairCount}
+use Rattle.derivation.specs.Tree.{Admitted}
+use Rattle.derivation.specs.Numbering.{Tells}
+use Rattle.derivation.specs.Chart.{cellAt, cells, items, firings, firingsBound}
+use Rattle.layout.specs.Layout.{decode}
+use Rattle.image.specs.Refusal.{Row, _unless_, First}
+use Rattle.image.specs.Image.{recordRows}
+use Rattle.chart.specs.declared.Judged.{Judged}
+
+-- refusals 1 to 9
+abbrev pub chartRows : (n size : ℕ) → List Row
+chartRows n size = (9 unless (cells n ≤ size)) ∷ []
+
+abbrev pub judgeRows : (b w chart : List ℕ) → List Row
+judgeRows b w chart = recordRows b (length w) ++ chartRows (length w) (length chart)
+
+-- bit A of the word of cell (i, k) is one exactly when [A, i, k] is derivable, and else zero
+pub record Shows (g : Grammar) (w chart : List ℕ) : Type 0 where
+  pub at : (A i k : ℕ) → i < k → k ≤ length w → Tells g w A i k (bit (getD chart (cellAt i k) 0) A)
+
+-- a refusal: zeros, and the chart as it was
+pub record Refused (before : List ℕ) (r : Judged) (after : List ℕ) : Type 0 where
+  pub admitted : r .admitted ≡ false
+  pub items : r .items ≡ 0
+  pub firings : r .firings ≡ 0
+  pub kept : after ≡ before
+
+-- success: the chart of g and w, and what is counted in it; words past those needed keep their values
+pub record Answered (g : Grammar) (w before : List ℕ) (r : Judged) (after : List ℕ) : Type 0 where
+  pub chart : Shows g w after
+  pub past : (y : ℕ) → cells (length w) ≤ y → getD after y 0 ≡ getD before y 0
+  pub long : length after ≡ length before
+  pub admitted : Decides (r .admitted) (Admitted g w)
+  pub items : r .items ≡ items g w
+  pub firings : r .firings ≡ firings g w
+  pub bound : r .firings ≤ firingsBound (length w) (g .symbols) (pairCount g)
+
+pub record JudgeIs (b w before : List ℕ) (r : Judged) (after : List ℕ) : Type 0 where
+  pub number : First (judgeRows b w before) (r .number)
+  pub refused : r .number ≢ 0 → Refused before r after
+  pub answered : r .number ≡ 0 → Answered (decode b) w before r after

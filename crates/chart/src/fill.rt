@@ -1,0 +1,98 @@
+// Cells and columns: each column from the words of the older ones as they stand.
+use kernel::Fired;
+ghost use mathlib.Core.Path.{_≡_};
+ghost use Prim.Native.Nat.{_+_, _≤_, _<_, _^_};
+ghost use lib.ListN.{length};
+ghost use Rattle.derivation.specs.Chart.{column, cellAt, cells};
+ghost use Rattle.layout.specs.Layout.{decode};
+ghost use Rattle.image.specs.Image.{Accepted};
+ghost use Rattle.kernel.specs.Group.{Grouped};
+ghost use Rattle.chart.specs.Fill.{rd, CellIs, CellFilled, ColumnFilled, Columns};
+
+// The word of cell (i, k).
+pub fn read_cell(chart: &[u64], i: usize, k: usize) -> u64
+    requires { ⌜ (i < k) × (k < 65536) × (cellAt i k < length (now chart)) ⌝ }
+    ensures { λ r. ⌜ r ≡ rd (now (chart .entry)) i k ⌝ }
+{
+    let at = derivation::cell_at(i, k);
+    chart[at]
+}
+
+// A cell of more than one event: all its splits.
+fn work_cell(image: &[u8], table: &[u64; 768], chart: &[u64], i: usize, k: usize) -> Fired
+    requires { ⌜ Accepted (now image) ⌝ }
+    requires { ⌜ Grouped (decode (now image)) (now table) ⌝ }
+    requires { ⌜ (i < k) × (k < 65536) × (column k + k ≤ length (now chart)) ⌝ }
+    ensures { λ f. ⌜ CellIs (decode (now (image .entry))) (now (chart .entry)) i k f × (f .count ≤ 2 ^ 24) ⌝ }
+{
+    let mut f = Fired { word: 0, count: 0 };
+    for j in i + 1..k {
+        let left = read_cell(chart, i, j);
+        let right = read_cell(chart, j, k);
+        f = kernel::fire_pairs(image, table, left, right, f);
+    }
+    f
+}
+
+// Works out cell (i, k) and stores it.
+fn fill_cell(image: &[u8], table: &[u64; 768], chart: &mut [u64], i: usize, k: usize) -> u64
+    requires { ⌜ Accepted (now image) ⌝ }
+    requires { ⌜ Grouped (decode (now image)) (now table) ⌝ }
+    requires { ⌜ (i < k) × (k < 65536) × (column k + k ≤ length (now chart)) ⌝ }
+    ensures { λ n. ⌜ CellFilled (decode (now (image .entry))) i k (now (chart .entry)) (now (chart .exit)) n × (n ≤ 2 ^ 24) ⌝ }
+{
+    let f = work_cell(image, table, chart, i, k);
+    let at = derivation::cell_at(i, k);
+    chart[at] = f.word;
+    f.count
+}
+
+// Column q: the cells that end at q + 1, from the last down.
+pub fn fill_column(
+    image: &[u8],
+    table: &[u64; 768],
+    event: usize,
+    chart: &mut [u64],
+    q: usize,
+) -> u64
+    requires { ⌜ Accepted (now image) ⌝ }
+    requires { ⌜ Grouped (decode (now image)) (now table) ⌝ }
+    requires { ⌜ (q + 1 < 65536) × (cellAt q (q + 1) < length (now chart)) ⌝ }
+    ensures { λ n. ⌜ ColumnFilled (decode (now (image .entry))) event (now (chart .entry)) (now (chart .exit)) q n × (n ≤ 2 ^ 41) ⌝ }
+{
+    let k = q + 1;
+    let leaf = kernel::fire_leaves(image, event);
+    let at = derivation::cell_at(q, k);
+    chart[at] = leaf.word;
+    let mut count = leaf.count;
+    for x in 0..q {
+        let i = q - 1 - x;
+        count += fill_cell(image, table, chart, i, k);
+    }
+    count
+}
+
+// All columns of a record.
+fn fill_columns(image: &[u8], table: &[u64; 768], events: &[u16], chart: &mut [u64]) -> u64
+    requires { ⌜ Accepted (now image) ⌝ }
+    requires { ⌜ Grouped (decode (now image)) (now table) ⌝ }
+    requires { ⌜ (length (now events) < 65536) × (cells (length (now events)) ≤ length (now chart)) ⌝ }
+    ensures { λ n. ⌜ Columns (decode (now (image .entry))) (now (events .entry)) (now (chart .entry)) (now (chart .exit)) (length (now (events .entry))) n ⌝ }
+{
+    let mut count: u64 = 0;
+    for q in 0..events.len() {
+        let event = events[q] as usize;
+        count += fill_column(image, table, event, chart, q);
+    }
+    count
+}
+
+// The whole chart of a record; answers its firings.
+pub fn fill_chart(image: &[u8], events: &[u16], chart: &mut [u64]) -> u64
+    requires { ⌜ Accepted (now image) ⌝ }
+    requires { ⌜ (length (now events) < 65536) × (cells (length (now events)) ≤ length (now chart)) ⌝ }
+    ensures { λ n. ⌜ Columns (decode (now (image .entry))) (now (events .entry)) (now (chart .entry)) (now (chart .exit)) (length (now (events .entry))) n ⌝ }
+{
+    let table = kernel::groups::group_rules(image);
+    fill_columns(image, &table, events, chart)
+}

@@ -1,0 +1,84 @@
+// Judges a record: fills the chart of a grammar image over events, column by column, and answers verdict, items and firings.
+mod fill; // cells and columns
+
+ghost use mathlib.Core.Path.{_≡_};
+ghost use mathlib.Core.Bool.{false};
+ghost use Prim.Native.Nat.{_≤_, _<_, _^_};
+ghost use lib.ListN.{length};
+ghost use Rattle.bits.specs.Truth.{Decides};
+ghost use Rattle.bits.specs.Bit.{bit};
+ghost use Rattle.derivation.specs.Chart.{cells};
+ghost use Rattle.chart.specs.Fill.{rd, onesTo};
+ghost use Rattle.chart.specs.Judge.{JudgeIs};
+
+// What judging answers: a refusal's number with zeros, or 0 with the verdict, the items and the firings.
+pub struct Judged {
+    pub number: u8,
+    pub admitted: bool,
+    pub items: u64,
+    pub firings: u64,
+}
+
+fn refused(number: u8) -> Judged
+    ensures { λ r. ⌜ r ≡ record { number = number; admitted = false; items = 0; firings = 0 } ⌝ }
+{
+    Judged {
+        number: number,
+        admitted: false,
+        items: 0,
+        firings: 0,
+    }
+}
+
+// The one bits of the first words of a chart.
+fn items_of(chart: &[u64], n: usize) -> u64
+    requires { ⌜ (n ≤ length (now chart)) × (n < 2 ^ 32) ⌝ }
+    ensures { λ r. ⌜ r ≡ onesTo (now (chart .entry)) n ⌝ }
+{
+    let mut total: u64 = 0;
+    for y in 0..n {
+        let word = chart[y];
+        total += bits::ones(word) as u64;
+    }
+    total
+}
+
+// Whether the start symbol stands in the cell of the whole record.
+fn top_has(chart: &[u64], n: usize) -> bool
+    requires { ⌜ (n < 65536) × (cells n ≤ length (now chart)) ⌝ }
+    ensures { λ ok. ⌜ Decides ok ((0 < n) × (bit (rd (now (chart .entry)) 0 n) 0 ≡ 1)) ⌝ }
+{
+    if n == 0 {
+        return false;
+    }
+    let top = fill::read_cell(chart, 0, n);
+    if bits::bit_of(top, 0) == 1 {
+        return true;
+    }
+    false
+}
+
+// Judges a record: refusals 1 to 9, or the chart, the verdict, the items and the firings.
+pub fn judge(image: &[u8], events: &[u16], chart: &mut [u64]) -> Judged
+    ensures { λ r. ⌜ JudgeIs (now (image .entry)) (now (events .entry)) (now (chart .entry)) r (now (chart .exit)) ⌝ }
+{
+    let n = events.len();
+    let tested = image::test_record(image, n);
+    let early = tested.number;
+    if early != 0 {
+        return refused(early);
+    }
+    let need = derivation::cell_count(n);
+    if chart.len() < need {
+        return refused(9);
+    }
+    let firings = fill::fill_chart(image, events, chart);
+    let admitted = top_has(chart, n);
+    let items = items_of(chart, need);
+    Judged {
+        number: 0,
+        admitted: admitted,
+        items: items,
+        firings: firings,
+    }
+}

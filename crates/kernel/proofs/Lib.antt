@@ -1,0 +1,6 @@
+pub mod Read
+pub mod Places
+pub mod Follows
+pub mod Unions
+pub mod Visits
+pub mod Leaves

@@ -1,0 +1,108 @@
+-- The group's unions tell that none of its rules matches or that all do; otherwise they are followed one by one.
+-- Assumes nothing.
+use mathlib.Core.Path.{refl}
+use Rattle.layout.specs.Layout.{decode}
+use Rattle.kernel.proofs.Places.{Ends, ends-of}
+use Rattle.kernel.proofs.Unions.{followed-none, followed-all}
+use native.Mathlib.Omega.{arith}
+use borrow.Author.Needs.{needs}
+use Rattle.kernel.proofs.fire_group.Statement.{statement}
+use Rattle.kernel.proofs.fire_group.Tie as tie
+
+-- where the group lies
+ends : (s : tie.Start) → Ends (decode (s .args .image .now)) (s .args .table .now) (s .args .a)
+ends s = ends-of _ _ _ (s .pre .1 .0) (s .pre .0 .sound .range .pairs) (s .pre .1 .1 .0)
+
+mul-needs : tie.Need-mul-needs
+mul-needs c = search needs
+
+add-needs : tie.Need-add-needs
+add-needs c = search needs
+
+mul-needs-2 : tie.Need-mul-needs-2
+mul-needs-2 c = search needs
+
+element-copy-out-needs : tie.Need-element-copy-out-needs
+element-copy-out-needs c = search needs
+
+returns : tie.Need-returns
+returns c =
+    let s = c .before .before .before in
+    followed-none (decode (s .args .image .now)) _ (s .pre .1 .0) (s .args .right) (s .args .a) (s .pre .1 .1 .0) (c .if1 .taken) _
+
+mul-word : tie.Need-mul-word
+mul-word c = search needs
+
+add-word : tie.Need-add-word
+add-word c = search needs
+
+mul-word-2 : tie.Need-mul-word-2
+mul-word-2 c = search needs
+
+element-copy-out-word : tie.Need-element-copy-out-word
+element-copy-out-word c = search needs
+
+mul-count : tie.Need-mul-count
+mul-count c = search needs
+
+add-count : tie.Need-add-count
+add-count c = search needs
+
+mul-count-2 : tie.Need-mul-count-2
+mul-count-2 c = search needs
+
+element-copy-out-count : tie.Need-element-copy-out-count
+element-copy-out-count c = search needs
+
+mul-count-3 : tie.Need-mul-count-3
+mul-count-3 c = search needs
+
+mul-count-4 : tie.Need-mul-count-4
+mul-count-4 c = search needs
+
+element-copy-out-count-2 : tie.Need-element-copy-out-count-2
+element-copy-out-count-2 c = search needs
+
+sub-count : tie.Need-sub-count
+sub-count c = let e = ends (c .before .before .before .before .before .before .before .before) in omega (arith, e .from, e .to)
+
+add-count-2 : tie.Need-add-count-2
+add-count-2 c = let e = ends (c .before .before .before .before .before .before .before .before .before) in omega (arith, e .few)
+
+returns-2 : tie.Need-returns-2
+returns-2 c =
+    let s = c .before .before .before .before .before .before .before .before .before in
+    followed-all (decode (s .args .image .now)) _ (s .pre .1 .0) (s .args .right) (s .args .a) (s .pre .1 .1 .0)
+    (c .before .before .before .before .before .if2 .taken) _ _ refl refl
+
+follow-requires : tie.Need-follow-requires
+follow-requires c κs = search needs
+
+returns-3 : tie.Need-returns-3
+returns-3 c = search needs
+
+pub fire-group-spec : {M : Type 1} → statement M
+fire-group-spec =
+    tie.close
+    (tie.spec
+    mul-needs
+    add-needs
+    mul-needs-2
+    element-copy-out-needs
+    returns
+    mul-word
+    add-word
+    mul-word-2
+    element-copy-out-word
+    mul-count
+    add-count
+    mul-count-2
+    element-copy-out-count
+    mul-count-3
+    mul-count-4
+    element-copy-out-count-2
+    sub-count
+    add-count-2
+    returns-2
+    follow-requires
+    returns-3)

@@ -1,0 +1,133 @@
+-- The invariant: the places of the group before x are walked.
+-- Assumes nothing.
+use mathlib.Core.Path.{_≡_, subst₂}
+use Prim.Native.Nat.{ℕ, _+_, _-_, _≤_}
+use Rattle.derivation.specs.Grammar.{pairCount}
+use Rattle.layout.specs.Layout.{decode}
+use Rattle.kernel.specs.Group.{lefts, groupFrom}
+use Rattle.kernel.proofs.Places.{Ends, ends-of}
+use Rattle.kernel.proofs.Follows.{Walk, walk-start, walk-le, walk-step, walk-done}
+use borrow.Author.Needs.{needs}
+use native.Mathlib.Omega.{arith}
+use Rattle.kernel.proofs.follow.Statement.{statement}
+use Rattle.kernel.proofs.follow.Tie as tie
+
+abbrev Inv-loop : tie.InvT-loop
+Inv-loop image table a right f₀ x₀ end f x = (x₀ ≤ x) × (x ≤ end) × (end ≤ 256) × Walk right x₀ table f₀ f (x - x₀)
+
+abbrev μ-loop : tie.MeasureT-loop
+μ-loop image table a right f₀ x₀ end f x = end - x
+
+-- where the group lies
+ends : (s : tie.Start Inv-loop μ-loop) → Ends (decode (s .args .image .now)) (s .args .table .now) (s .args .a)
+ends s = ends-of _ _ _ (s .pre .1 .0) (s .pre .0 .sound .range .pairs) (s .pre .1 .1 .0)
+
+mul-x : tie.Need-mul-x Inv-loop μ-loop
+mul-x c = search needs
+
+mul-x-2 : tie.Need-mul-x-2 Inv-loop μ-loop
+mul-x-2 c = search needs
+
+element-copy-out-x : tie.Need-element-copy-out-x Inv-loop μ-loop
+element-copy-out-x c = search needs
+
+mul-end : tie.Need-mul-end Inv-loop μ-loop
+mul-end c = search needs
+
+add-end : tie.Need-add-end Inv-loop μ-loop
+add-end c = search needs
+
+mul-end-2 : tie.Need-mul-end-2 Inv-loop μ-loop
+mul-end-2 c = search needs
+
+element-copy-out-end : tie.Need-element-copy-out-end Inv-loop μ-loop
+element-copy-out-end c = search needs
+
+loop-holds : tie.Need-loop-holds Inv-loop μ-loop
+loop-holds c =
+    let s = c .before .before .before in
+    let e = ends s in
+    (omega arith, omega (arith, e .from, e .to), e .few, rw (self (groupFrom (s .args .table .now) (s .args .a))) (walk-start _ _ _ _))
+  where
+    self : (x : ℕ) → x - x ≡ 0
+    self x = omega arith
+
+mul-r : tie.Need-mul-r Inv-loop μ-loop
+mul-r c = search needs
+
+add-r : tie.Need-add-r Inv-loop μ-loop
+add-r c = search needs
+
+mul-r-2 : tie.Need-mul-r-2 Inv-loop μ-loop
+mul-r-2 c = search needs
+
+element-copy-out-r : tie.Need-element-copy-out-r Inv-loop μ-loop
+element-copy-out-r c = search needs
+
+mul-symbol : tie.Need-mul-symbol Inv-loop μ-loop
+mul-symbol c = search needs
+
+add-symbol : tie.Need-add-symbol Inv-loop μ-loop
+add-symbol c = search needs
+
+mul-symbol-2 : tie.Need-mul-symbol-2 Inv-loop μ-loop
+mul-symbol-2 c = search needs
+
+element-copy-out-symbol : tie.Need-element-copy-out-symbol Inv-loop μ-loop
+element-copy-out-symbol c = search needs
+
+note-requires : tie.Need-note-requires Inv-loop μ-loop
+note-requires c κs =
+    omega (arith, walk-le _ _ _ _ _ _ (c .before .before .before .loop .inv .3), c .before .before .before .before .before .before .before .pre .1 .1 .1)
+
+add-x : tie.Need-add-x Inv-loop μ-loop
+add-x c = search needs
+
+loop-less : tie.Need-loop-less Inv-loop μ-loop
+loop-less c = search needs
+
+loop-again : tie.Need-loop-again Inv-loop μ-loop
+loop-again c =
+    let l = c .before .before .before .before .loop in
+    let s = c .before .before .before .before .before .before .before .before .args in
+    let o = groupFrom (s .table .now) (s .a) in
+    let d : l .x + 1 - o ≡ l .x - o + 1 = omega arith in
+    (omega arith, omega arith, omega arith, rw d (walk-step _ _ _ _ _ _ (l .x - o) (l .x) (l .inv .3) (omega arith) (c .note .ensures)))
+
+returns : tie.Need-returns Inv-loop μ-loop
+returns c =
+    let l = c .before .loop in
+    let s = c .before .before .before .before .before in
+    let e = ends s in
+    let g = decode (s .args .image .now) in
+    let d : l .x - groupFrom (s .args .table .now) (s .args .a) ≡ lefts g (s .args .a) (pairCount g) = omega (arith, e .from, e .to) in
+    walk-done g _ (s .pre .1 .0) (s .args .right) (s .args .a) (s .pre .1 .1 .0) _ _
+    (subst₂ (λ (o m : ℕ). Walk (s .args .right) o (s .args .table .now) (s .args .into) (l .f) m) (e .from) d (l .inv .3))
+
+pub follow-spec : {M : Type 1} → statement M
+follow-spec =
+    tie.close
+    (tie.spec
+    Inv-loop
+    μ-loop
+    mul-x
+    mul-x-2
+    element-copy-out-x
+    mul-end
+    add-end
+    mul-end-2
+    element-copy-out-end
+    loop-holds
+    mul-r
+    add-r
+    mul-r-2
+    element-copy-out-r
+    mul-symbol
+    add-symbol
+    mul-symbol-2
+    element-copy-out-symbol
+    note-requires
+    add-x
+    loop-less
+    loop-again
+    returns)

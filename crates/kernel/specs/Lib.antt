@@ -1,0 +1,2 @@
+pub mod Fire
+pub mod Group

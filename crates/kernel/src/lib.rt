@@ -1,0 +1,128 @@
+// The rules over words: the event rules over an event, and the pair rules over the words of two cells.
+pub mod groups; // the pair rules regrouped by left symbol
+
+ghost use mathlib.Core.Path.{_≡_};
+ghost use Prim.Native.Nat.{_+_, _≤_, _<_, _^_};
+ghost use Rattle.bits.specs.Truth.{same};
+ghost use Rattle.derivation.specs.Grammar.{leafCount, eventRule};
+ghost use Rattle.layout.specs.Layout.{decode};
+ghost use Rattle.image.specs.Image.{Accepted};
+ghost use Rattle.kernel.specs.Fire.{Noted, Concluded, LeafFired};
+ghost use Rattle.kernel.specs.Group.{Grouped, Followed};
+
+// A cell's word so far, and the matches counted so far.
+pub struct Fired {
+    pub word: u64,
+    pub count: u64,
+}
+
+// A rule's match, which is 0 for none: where there is one, its symbol goes into the word, and it counts.
+fn note(hit: u64, symbol: u64, was: Fired) -> Fired
+    requires { ⌜ was .count < 2 ^ 62 ⌝ }
+    ensures { λ f. ⌜ Noted hit symbol was f ⌝ }
+{
+    if hit == 0 {
+        return was;
+    }
+    let word = was.word | symbol;
+    let count = was.count + 1;
+    Fired { word, count }
+}
+
+// ---- event rules
+
+// 1 where event rule r makes the event, else 0.
+fn meets(image: &[u8], r: usize, event: usize) -> u64
+    requires { ⌜ Accepted (now image) ⌝ }
+    requires { ⌜ r < leafCount (decode (now image)) ⌝ }
+    ensures { λ h. ⌜ (h ≡ same (eventRule (decode (now (image .entry))) r .event) event) × (h < 2) ⌝ }
+{
+    let e = layout::event_of(image, r);
+    if e == event { 1 } else { 0 }
+}
+
+// The symbol of event rule r, as the word of that one bit.
+fn leaf_symbol(image: &[u8], r: usize) -> u64
+    requires { ⌜ Accepted (now image) ⌝ }
+    requires { ⌜ r < leafCount (decode (now image)) ⌝ }
+    ensures { λ s. ⌜ s ≡ 2 ^ eventRule (decode (now (image .entry))) r .symbol ⌝ }
+{
+    let symbol = layout::symbol_of(image, r);
+    bits::put_bit(0, symbol, 1)
+}
+
+// The event rules over one event.
+pub fn fire_leaves(image: &[u8], event: usize) -> Fired
+    requires { ⌜ Accepted (now image) ⌝ }
+    ensures { λ f. ⌜ LeafFired (decode (now (image .entry))) event f × (f .count ≤ 512) ⌝ }
+{
+    let leaves = layout::leaf_count(image);
+    let mut f = Fired { word: 0, count: 0 };
+    for r in 0..leaves {
+        let h = meets(image, r, event);
+        let symbol = leaf_symbol(image, r);
+        f = note(h, symbol, f);
+    }
+    f
+}
+
+// ---- pair rules
+
+// The pair rules with the left symbol a, one by one, over the right word.
+fn follow(image: &[u8], table: &[u64; 768], a: usize, right: u64, into: Fired) -> Fired
+    requires { ⌜ Accepted (now image) ⌝ }
+    requires { ⌜ Grouped (decode (now image)) (now table) ⌝ }
+    requires { ⌜ (a < 64) × (into .count + 256 < 2 ^ 62) ⌝ }
+    ensures { λ f. ⌜ Followed (decode (now (image .entry))) right a into f ⌝ }
+{
+    let mut f = into;
+    let mut x = table[4 * a] as usize;
+    let end = table[4 * a + 1] as usize;
+    while x < end {
+        let r = table[256 + 2 * x];
+        let symbol = table[257 + 2 * x];
+        f = note(right & r, symbol, f);
+        x += 1;
+    }
+    f
+}
+
+// The pair rules with the left symbol a, which stands in the left word, over the right word: where all their right symbols stand there,
+// or none, they need not be followed one by one.
+fn fire_group(image: &[u8], table: &[u64; 768], a: usize, right: u64, into: Fired) -> Fired
+    requires { ⌜ Accepted (now image) ⌝ }
+    requires { ⌜ Grouped (decode (now image)) (now table) ⌝ }
+    requires { ⌜ (a < 64) × (into .count + 256 < 2 ^ 62) ⌝ }
+    ensures { λ f. ⌜ Followed (decode (now (image .entry))) right a into f ⌝ }
+{
+    let needs = table[4 * a + 2];
+    let met = right & needs;
+    if met == 0 {
+        return into;
+    }
+    if met == needs {
+        let word = into.word | table[4 * a + 3];
+        let count = into.count + (table[4 * a + 1] - table[4 * a]);
+        return Fired { word, count };
+    }
+    follow(image, table, a, right, into)
+}
+
+// All the pair rules over two words: for each set symbol of the left word, the rules whose left symbol it is.
+pub fn fire_pairs(image: &[u8], table: &[u64; 768], left: u64, right: u64, into: Fired) -> Fired
+    requires { ⌜ Accepted (now image) ⌝ }
+    requires { ⌜ Grouped (decode (now image)) (now table) ⌝ }
+    requires { ⌜ into .count + 32768 < 2 ^ 62 ⌝ }
+    ensures { λ f. ⌜ Concluded (decode (now (image .entry))) left right into f × (f .count ≤ into .count + 256) ⌝ }
+{
+    if right == 0 {
+        return into;
+    }
+    let mut f = into;
+    let mut a = bits::next_bit(left, 0);
+    while a < 64 {
+        f = fire_group(image, table, a, right, f);
+        a = bits::next_bit(left, a + 1);
+    }
+    f
+}
