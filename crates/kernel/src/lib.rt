@@ -76,11 +76,13 @@ fn follow(image: &[u8], table: &[u64; 768], a: usize, right: u64, into: Fired) -
     ensures { λ f. ⌜ Followed (decode (now (image .entry))) right a into f ⌝ }
 {
     let mut f = into;
-    let mut x = table[4 * a] as usize;
-    let end = table[4 * a + 1] as usize;
+    let head = 4 * a;
+    let mut x = table[head] as usize;
+    let end = table[head + 1] as usize;
     while x < end {
-        let r = table[256 + 2 * x];
-        let symbol = table[257 + 2 * x];
+        let at = 256 + 2 * x;
+        let r = table[at];
+        let symbol = table[at + 1];
         f = note(right & r, symbol, f);
         x += 1;
     }
@@ -95,14 +97,15 @@ fn fire_group(image: &[u8], table: &[u64; 768], a: usize, right: u64, into: Fire
     requires { ⌜ (a < 64) × (into .count + 256 < 2 ^ 62) ⌝ }
     ensures { λ f. ⌜ Followed (decode (now (image .entry))) right a into f ⌝ }
 {
-    let needs = table[4 * a + 2];
+    let head = 4 * a;
+    let needs = table[head + 2];
     let met = right & needs;
     if met == 0 {
         return into;
     }
     if met == needs {
-        let word = into.word | table[4 * a + 3];
-        let count = into.count + (table[4 * a + 1] - table[4 * a]);
+        let word = into.word | table[head + 3];
+        let count = into.count + (table[head + 1] - table[head]);
         return Fired { word, count };
     }
     follow(image, table, a, right, into)

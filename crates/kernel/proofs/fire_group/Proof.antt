@@ -13,14 +13,14 @@ use Rattle.kernel.proofs.fire_group.Tie as tie
 ends : (s : tie.Start) → Ends (decode (s .args .image .now)) (s .args .table .now) (s .args .a)
 ends s = ends-of _ _ _ (s .pre .1 .0) (s .pre .0 .sound .range .pairs) (s .pre .1 .1 .0)
 
-mul-needs : tie.Need-mul-needs
-mul-needs c = search needs
+mul-head : tie.Need-mul-head
+mul-head c = search needs
 
 add-needs : tie.Need-add-needs
 add-needs c = search needs
 
-mul-needs-2 : tie.Need-mul-needs-2
-mul-needs-2 c = search needs
+mul-needs : tie.Need-mul-needs
+mul-needs c = search needs
 
 element-copy-out-needs : tie.Need-element-copy-out-needs
 element-copy-out-needs c = search needs
@@ -30,35 +30,26 @@ returns c =
     let s = c .before .before .before in
     followed-none (decode (s .args .image .now)) _ (s .pre .1 .0) (s .args .right) (s .args .a) (s .pre .1 .1 .0) (c .if1 .taken) _
 
-mul-word : tie.Need-mul-word
-mul-word c = search needs
-
 add-word : tie.Need-add-word
 add-word c = search needs
 
-mul-word-2 : tie.Need-mul-word-2
-mul-word-2 c = search needs
+mul-word : tie.Need-mul-word
+mul-word c = search needs
 
 element-copy-out-word : tie.Need-element-copy-out-word
 element-copy-out-word c = search needs
 
-mul-count : tie.Need-mul-count
-mul-count c = search needs
-
 add-count : tie.Need-add-count
 add-count c = search needs
 
-mul-count-2 : tie.Need-mul-count-2
-mul-count-2 c = search needs
+mul-count : tie.Need-mul-count
+mul-count c = search needs
 
 element-copy-out-count : tie.Need-element-copy-out-count
 element-copy-out-count c = search needs
 
-mul-count-3 : tie.Need-mul-count-3
-mul-count-3 c = search needs
-
-mul-count-4 : tie.Need-mul-count-4
-mul-count-4 c = search needs
+mul-count-2 : tie.Need-mul-count-2
+mul-count-2 c = search needs
 
 element-copy-out-count-2 : tie.Need-element-copy-out-count-2
 element-copy-out-count-2 c = search needs
@@ -85,21 +76,18 @@ pub fire-group-spec : {M : Type 1} → statement M
 fire-group-spec =
     tie.close
     (tie.spec
-    mul-needs
+    mul-head
     add-needs
-    mul-needs-2
+    mul-needs
     element-copy-out-needs
     returns
-    mul-word
     add-word
-    mul-word-2
+    mul-word
     element-copy-out-word
-    mul-count
     add-count
-    mul-count-2
+    mul-count
     element-copy-out-count
-    mul-count-3
-    mul-count-4
+    mul-count-2
     element-copy-out-count-2
     sub-count
     add-count-2

@@ -13,32 +13,29 @@ use Rattle.kernel.proofs.follow.Statement.{statement}
 use Rattle.kernel.proofs.follow.Tie as tie
 
 abbrev Inv-loop : tie.InvT-loop
-Inv-loop image table a right f₀ x₀ end f x = (x₀ ≤ x) × (x ≤ end) × (end ≤ 256) × Walk right x₀ table f₀ f (x - x₀)
+Inv-loop image table a right f₀ head x₀ end f x = (x₀ ≤ x) × (x ≤ end) × (end ≤ 256) × Walk right x₀ table f₀ f (x - x₀)
 
 abbrev μ-loop : tie.MeasureT-loop
-μ-loop image table a right f₀ x₀ end f x = end - x
+μ-loop image table a right f₀ head x₀ end f x = end - x
 
 -- where the group lies
 ends : (s : tie.Start Inv-loop μ-loop) → Ends (decode (s .args .image .now)) (s .args .table .now) (s .args .a)
 ends s = ends-of _ _ _ (s .pre .1 .0) (s .pre .0 .sound .range .pairs) (s .pre .1 .1 .0)
 
+mul-head : tie.Need-mul-head Inv-loop μ-loop
+mul-head c = search needs
+
 mul-x : tie.Need-mul-x Inv-loop μ-loop
 mul-x c = search needs
-
-mul-x-2 : tie.Need-mul-x-2 Inv-loop μ-loop
-mul-x-2 c = search needs
 
 element-copy-out-x : tie.Need-element-copy-out-x Inv-loop μ-loop
 element-copy-out-x c = search needs
 
-mul-end : tie.Need-mul-end Inv-loop μ-loop
-mul-end c = search needs
-
 add-end : tie.Need-add-end Inv-loop μ-loop
 add-end c = search needs
 
-mul-end-2 : tie.Need-mul-end-2 Inv-loop μ-loop
-mul-end-2 c = search needs
+mul-end : tie.Need-mul-end Inv-loop μ-loop
+mul-end c = search needs
 
 element-copy-out-end : tie.Need-element-copy-out-end Inv-loop μ-loop
 element-copy-out-end c = search needs
@@ -52,26 +49,23 @@ loop-holds c =
     self : (x : ℕ) → x - x ≡ 0
     self x = omega arith
 
+mul-at : tie.Need-mul-at Inv-loop μ-loop
+mul-at c = search needs
+
+add-at : tie.Need-add-at Inv-loop μ-loop
+add-at c = search needs
+
 mul-r : tie.Need-mul-r Inv-loop μ-loop
 mul-r c = search needs
-
-add-r : tie.Need-add-r Inv-loop μ-loop
-add-r c = search needs
-
-mul-r-2 : tie.Need-mul-r-2 Inv-loop μ-loop
-mul-r-2 c = search needs
 
 element-copy-out-r : tie.Need-element-copy-out-r Inv-loop μ-loop
 element-copy-out-r c = search needs
 
-mul-symbol : tie.Need-mul-symbol Inv-loop μ-loop
-mul-symbol c = search needs
-
 add-symbol : tie.Need-add-symbol Inv-loop μ-loop
 add-symbol c = search needs
 
-mul-symbol-2 : tie.Need-mul-symbol-2 Inv-loop μ-loop
-mul-symbol-2 c = search needs
+mul-symbol : tie.Need-mul-symbol Inv-loop μ-loop
+mul-symbol c = search needs
 
 element-copy-out-symbol : tie.Need-element-copy-out-symbol Inv-loop μ-loop
 element-copy-out-symbol c = search needs
@@ -110,21 +104,19 @@ follow-spec =
     (tie.spec
     Inv-loop
     μ-loop
+    mul-head
     mul-x
-    mul-x-2
     element-copy-out-x
-    mul-end
     add-end
-    mul-end-2
+    mul-end
     element-copy-out-end
     loop-holds
+    mul-at
+    add-at
     mul-r
-    add-r
-    mul-r-2
     element-copy-out-r
-    mul-symbol
     add-symbol
-    mul-symbol-2
+    mul-symbol
     element-copy-out-symbol
     note-requires
     add-x
