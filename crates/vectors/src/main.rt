@@ -1,70 +1,39 @@
-// Runs the tests of an image on each line of standard input, and writes the line's name with the answers: the number with N, L and B,
-// and the numbers for records of 64 and of 65 events. A line is a name, a colon, and a space and two digits for each byte of the image.
+// Runs the services on each line of standard input, and writes the line's name with the answers.
+// A line is a name, a colon, and a space and two digits for each byte of an image. Where nothing follows, the image is tested: written
+// are the number with N, L and B, and the numbers for records of 64 and of 65 events. Where a semicolon follows, a record is judged.
+mod judging; // a line that judges a record
+mod parse; // lines of text
+mod write; // numbers
+
 use libc::STDIN_FILENO;
 use libc::STDOUT_FILENO;
-ghost use Prim.Native.Nat.{_≤_, _<_};
-ghost use lib.ListN.{length};
+use parse::find;
+use parse::read_bytes;
+use write::value;
 
-// ---- reading
-
-// The value of a hexadecimal digit.
-fn digit(c: u8) -> u8
-    ensures { λ r. ⌜ r < 16 ⌝ }
-{
-    if c < b'a' { c % 16 } else { (c - 87) % 16 }
-}
-
-// The first place of c from `from` on, or the end.
-fn find(text: &[u8], from: usize, c: u8) -> usize
-    requires { ⌜ from ≤ length (now text) ⌝ }
-    ensures { λ r. ⌜ (from ≤ r) × (r ≤ length (now (text .entry))) ⌝ }
-{
-    let mut at = from;
-    while at < text.len() {
-        if text[at] == c {
-            return at;
-        }
-        at += 1;
-    }
-    at
-}
-
-// The bytes that a text shows, each by a space and two digits, as many as there is room for; answers how many.
-fn read_bytes(text: &[u8], image: &mut [u8]) -> usize
-    ensures { λ r. ⌜ r ≤ length (now (image .exit)) ⌝ }
-{
-    let mut count = 0;
-    while count < text.len() / 3 {
-        if image.len() <= count {
-            return count;
-        }
-        let at = 3 * count + 1;
-        image[count] = 16 * digit(text[at]) + digit(text[at + 1]);
-        count += 1;
-    }
-    count
-}
-
-// ---- writing
-
-fn value(n: usize) {
-    io::write_all(STDOUT_FILENO, b" ");
-    io::print_decimal(STDOUT_FILENO, n as u64);
-}
-
-fn answer(image: &[u8]) {
+fn test(image: &[u8]) {
     let t = image::test_image(image);
-    value(t.number as usize);
-    value(t.symbols);
-    value(t.leaves);
-    value(t.pairs);
+    value(t.number as u64);
+    value(t.symbols as u64);
+    value(t.leaves as u64);
+    value(t.pairs as u64);
     let most = image::test_record(image, 64);
-    value(most.number as usize);
+    value(most.number as u64);
     let more = image::test_record(image, 65);
-    value(more.number as usize);
+    value(more.number as u64);
 }
 
-// ---- lines
+// What follows the name.
+fn run_case(text: &[u8], image: &mut [u8]) {
+    let end = find(text, 0, b';');
+    let count = read_bytes(&text[..end], image);
+    if end == text.len() {
+        test(&image[..count]);
+        return;
+    }
+    let behind = end + 1;
+    judging::run(&image[..count], &text[behind..]);
+}
 
 fn run_line(line: &[u8], image: &mut [u8]) {
     let end = find(line, 0, b':');
@@ -72,9 +41,8 @@ fn run_line(line: &[u8], image: &mut [u8]) {
         return;
     }
     let behind = end + 1;
-    let count = read_bytes(&line[behind..], image);
     io::write_all(STDOUT_FILENO, &line[..behind]);
-    answer(&image[..count]);
+    run_case(&line[behind..], image);
     io::write_all(STDOUT_FILENO, b"\n");
 }
 

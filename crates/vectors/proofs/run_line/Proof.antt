@@ -1,4 +1,4 @@
--- The parts of the line and of the image lie within them, as `find` and `read_bytes` promise.
+-- The name lies within the line.
 -- Assumes nothing.
 use mathlib.Core.Path.{sym}
 use lib.Seq.{length-take-le}
@@ -16,32 +16,23 @@ returns c = search needs
 add-behind : tie.Need-add-behind
 add-behind c = search needs
 
-sub-read-bytes : tie.Need-sub-read-bytes
-sub-read-bytes c = search needs
-
-part-read-bytes-start : tie.Need-part-read-bytes-start
-part-read-bytes-start c = search needs
-
-part-read-bytes-end : tie.Need-part-read-bytes-end
-part-read-bytes-end c = search needs
-
-read-bytes-requires : tie.Need-read-bytes-requires
-read-bytes-requires c κs = search needs
-
 slice-aggregate-write-all : tie.Need-slice-aggregate-write-all
 slice-aggregate-write-all c = sym (length-take-le _ _ (omega arith))
 
 write-all-requires : tie.Need-write-all-requires
 write-all-requires c κs = search needs
 
-slice-reshare-prefix-answer : tie.Need-slice-reshare-prefix-answer
-slice-reshare-prefix-answer c = search needs
+sub-run-case : tie.Need-sub-run-case
+sub-run-case c = search needs
 
-slice-aggregate-answer : tie.Need-slice-aggregate-answer
-slice-aggregate-answer c = sym (length-take-le _ _ (c .before .before .before .before .before .read-bytes .ensures))
+part-run-case-start : tie.Need-part-run-case-start
+part-run-case-start c = search needs
 
-answer-requires : tie.Need-answer-requires
-answer-requires c κs = search needs
+part-run-case-end : tie.Need-part-run-case-end
+part-run-case-end c = search needs
+
+run-case-requires : tie.Need-run-case-requires
+run-case-requires c κs = search needs
 
 slice-aggregate-write-all-2 : tie.Need-slice-aggregate-write-all-2
 slice-aggregate-write-all-2 c = search needs
@@ -62,15 +53,12 @@ run-line-spec =
     find-requires
     returns
     add-behind
-    sub-read-bytes
-    part-read-bytes-start
-    part-read-bytes-end
-    read-bytes-requires
     slice-aggregate-write-all
     write-all-requires
-    slice-reshare-prefix-answer
-    slice-aggregate-answer
-    answer-requires
+    sub-run-case
+    part-run-case-start
+    part-run-case-end
+    run-case-requires
     slice-aggregate-write-all-2
     write-all-requires-2
     same-length

@@ -1,0 +1,81 @@
+-- The parts lie within what they are parts of, as the readers promise.
+-- Assumes nothing.
+use mathlib.Core.Path.{sym}
+use lib.Seq.{length-take-le}
+use native.Mathlib.Omega.{arith}
+use borrow.Author.Needs.{needs}
+use Rattle.vectors.proofs.judging.run.Statement.{statement}
+use Rattle.vectors.proofs.judging.run.Tie as tie
+
+find-requires : tie.Need-find-requires
+find-requires c κs = search needs
+
+slice-aggregate-read-events : tie.Need-slice-aggregate-read-events
+slice-aggregate-read-events c = sym (length-take-le _ _ (c .before .find .ensures .1))
+
+slice-aggregate-read-events-2 : tie.Need-slice-aggregate-read-events-2
+slice-aggregate-read-events-2 c = search needs
+
+read-events-requires : tie.Need-read-events-requires
+read-events-requires c κs = search needs
+
+returns : tie.Need-returns
+returns c = search needs
+
+add-behind : tie.Need-add-behind
+add-behind c = search needs
+
+sub-read-words : tie.Need-sub-read-words
+sub-read-words c = search needs
+
+part-read-words-start : tie.Need-part-read-words-start
+part-read-words-start c = search needs
+
+part-read-words-end : tie.Need-part-read-words-end
+part-read-words-end c = search needs
+
+slice-aggregate-read-words : tie.Need-slice-aggregate-read-words
+slice-aggregate-read-words c = search needs
+
+read-words-requires : tie.Need-read-words-requires
+read-words-requires c κs = search needs
+
+array-share-prefix-events : tie.Need-array-share-prefix-events
+array-share-prefix-events c = search needs
+
+slice-aggregate-answer : tie.Need-slice-aggregate-answer
+slice-aggregate-answer c = sym (length-take-le _ _ (c .before .before .before .before .before .before .before .read-events .ensures))
+
+array-borrow-prefix-chart : tie.Need-array-borrow-prefix-chart
+array-borrow-prefix-chart c = search needs
+
+slice-aggregate-answer-2 : tie.Need-slice-aggregate-answer-2
+slice-aggregate-answer-2 c = sym (length-take-le _ _ (c .before .before .before .read-words .ensures))
+
+answer-requires : tie.Need-answer-requires
+answer-requires c κs = search needs
+
+returns-2 : tie.Need-returns-2
+returns-2 c = search needs
+
+pub run-spec : {M : Type 1} → statement M
+run-spec =
+    tie.close
+    (tie.spec
+    find-requires
+    slice-aggregate-read-events
+    slice-aggregate-read-events-2
+    read-events-requires
+    returns
+    add-behind
+    sub-read-words
+    part-read-words-start
+    part-read-words-end
+    slice-aggregate-read-words
+    read-words-requires
+    array-share-prefix-events
+    slice-aggregate-answer
+    array-borrow-prefix-chart
+    slice-aggregate-answer-2
+    answer-requires
+    returns-2)

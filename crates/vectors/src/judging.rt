@@ -1,0 +1,71 @@
+// A line that judges a record: behind the image its events, two bytes each, and a byte for each word of the lent chart as it is before.
+// Written are the number, the verdict, the items, the firings, and every word of the chart as it is afterwards.
+use super::parse::find;
+use super::parse::read_bytes;
+use super::write::value;
+use super::write::values;
+ghost use Prim.Native.Nat.{_≤_, _<_};
+ghost use lib.ListN.{length};
+
+fn wide(byte: u8) -> u16
+    ensures { λ r. ⌜ r < 256 ⌝ }
+{
+    byte as u16
+}
+
+// Events, low byte first.
+fn read_events(text: &[u8], events: &mut [u16]) -> usize
+    ensures { λ r. ⌜ r ≤ length (now (events .exit)) ⌝ }
+{
+    let mut bytes = [0u8; 256];
+    let count = read_bytes(text, &mut bytes);
+    let mut n = 0;
+    while n < count / 2 {
+        if events.len() <= n {
+            return n;
+        }
+        events[n] = wide(bytes[2 * n]) + 256 * wide(bytes[2 * n + 1]);
+        n += 1;
+    }
+    n
+}
+
+// Words, a byte each.
+fn read_words(text: &[u8], words: &mut [u64]) -> usize
+    ensures { λ r. ⌜ r ≤ length (now (words .exit)) ⌝ }
+{
+    let mut bytes = [0u8; 2304];
+    let count = read_bytes(text, &mut bytes);
+    let mut n = 0;
+    while n < count {
+        if words.len() <= n {
+            return n;
+        }
+        words[n] = wide(bytes[n]) as u64;
+        n += 1;
+    }
+    n
+}
+
+fn answer(image: &[u8], events: &[u16], chart: &mut [u64]) {
+    let judged = chart::judge(image, events, chart);
+    value(judged.number as u64);
+    value(judged.admitted as u64);
+    value(judged.items);
+    value(judged.firings);
+    values(chart);
+}
+
+// The text is what follows the image.
+pub fn run(image: &[u8], text: &[u8]) {
+    let mut events = [0u16; 128];
+    let mut chart = [0u64; 2304];
+    let end = find(text, 0, b';');
+    let n = read_events(&text[..end], &mut events);
+    if end == text.len() {
+        return;
+    }
+    let behind = end + 1;
+    let size = read_words(&text[behind..], &mut chart);
+    answer(image, &events[..n], &mut chart[..size]);
+}
