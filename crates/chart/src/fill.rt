@@ -6,7 +6,7 @@ ghost use lib.ListN.{length};
 ghost use Rattle.derivation.specs.Chart.{column, cellAt, cells};
 ghost use Rattle.layout.specs.Layout.{decode};
 ghost use Rattle.image.specs.Image.{Accepted};
-ghost use Rattle.kernel.specs.Group.{Grouped};
+ghost use Rattle.groups.specs.Group.{Grouped};
 ghost use Rattle.chart.specs.Fill.{rd, CellIs, CellFilled, ColumnFilled, Columns};
 
 // The word of cell (i, k).
@@ -93,6 +93,6 @@ pub fn fill_chart(image: &[u8], events: &[u16], chart: &mut [u64]) -> u64
     requires { ⌜ (length (now events) < 65536) × (cells (length (now events)) ≤ length (now chart)) ⌝ }
     ensures { λ n. ⌜ Columns (decode (now (image .entry))) (now (events .entry)) (now (chart .entry)) (now (chart .exit)) (length (now (events .entry))) n ⌝ }
 {
-    let table = kernel::groups::group_rules(image);
+    let table = groups::group_rules(image);
     fill_columns(image, &table, events, chart)
 }

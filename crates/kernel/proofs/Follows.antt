@@ -14,7 +14,8 @@ use Rattle.bits.proofs.Bits.{bit-lt, bit-or, meet-lt}
 use Rattle.derivation.specs.Grammar.{Grammar, pairCount}
 use Rattle.kernel.specs.declared.Fired.{Fired}
 use Rattle.kernel.specs.Fire.{Noted}
-use Rattle.kernel.specs.Group.{lefts, startOf, placeRight, placeSymbol, matching, concluding, Grouped, Followed}
+use Rattle.groups.specs.Group.{lefts, startOf, placeRight, placeSymbol, Grouped}
+use Rattle.kernel.specs.Follow.{matching, concluding, Followed}
 
 -- F of the rule at place `from + y` of the table
 unfoldable pub ruleAt : ℕ → List ℕ → (ℕ → ℕ → ℕ) → ℕ → ℕ

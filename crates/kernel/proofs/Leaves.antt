@@ -1,7 +1,7 @@
 -- The event rules over an event, one after the other: after n of them the word and the count are what those rules add.
 -- Assumes nothing.
 use mathlib.Core.Path.{_≡_, sym, ap, ap₂, _∙_}
-use Prim.Native.Nat.{ℕ, _+_, _*_, _^_, _≤_, max, min}
+use Prim.Native.Nat.{ℕ, _+_, _*_, _^_, _≤_, _<_, max, min}
 use native.Mathlib.Nat.{le-of-suc-le-suc}
 use native.Mathlib.Omega.{arith}
 use Rattle.bits.specs.Truth.{same}
@@ -10,7 +10,9 @@ use Rattle.bits.specs.Bit.{bit}
 use Rattle.bits.proofs.Truths.{same-lt}
 use Rattle.bits.proofs.Sums.{sum-more, sum-le, product-le, some-add}
 use Rattle.bits.proofs.Bits.{bit-of-zero, bit-one}
-use Rattle.derivation.specs.Grammar.{Grammar, leafCount, eventRule}
+use Rattle.derivation.specs.Grammar.{Grammar, leafCount, eventRule, ruleSymbol}
+use Rattle.derivation.specs.Sound.{Sound}
+use Rattle.derivation.proofs.Sound.{leaf-symbol, leaf-fits}
 use Rattle.derivation.specs.Chart.{eventFirings}
 use Rattle.kernel.specs.declared.Fired.{Fired}
 use Rattle.kernel.specs.Fire.{leafConclusions, Noted, LeafFired}
@@ -55,3 +57,10 @@ module _ (g : Grammar) (e : ℕ) where
   pub run-done : (f : Fired) → Run f (leafCount g) → LeafFired g e f
   unfolding leafConclusions eventFirings turns
   run-done f w = record { word = w .word; count = w .count }
+
+-- what is read of an event rule of a sound grammar
+pub leaf-read : (g : Grammar) → Sound g → (r s : ℕ) → r < leafCount g → s ≡ ruleSymbol g r → (s ≡ eventRule g r .symbol) × (s < 64)
+leaf-read g ok r s h i =
+    let n = ok .range .symbols in
+    let e : s ≡ eventRule g r .symbol = i ∙ leaf-symbol g r h in
+    (e, omega (arith, leaf-fits g ok r h))

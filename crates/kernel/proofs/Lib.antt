@@ -1,5 +1,3 @@
-pub mod Read
-pub mod Places
 pub mod Follows
 pub mod Unions
 pub mod Visits

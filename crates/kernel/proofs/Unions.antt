@@ -16,7 +16,8 @@ use Rattle.bits.proofs.Bits.{bit-lt, bit-and, bit-or, bit-one, bit-of-zero}
 use Rattle.bits.proofs.Words.{meet-one}
 use Rattle.derivation.specs.Grammar.{Grammar, pairCount, pairRule}
 use Rattle.kernel.specs.declared.Fired.{Fired}
-use Rattle.kernel.specs.Group.{lefts, byLeft, groupFrom, groupTo, groupNeeds, groupGives, rightIs, symbolIs, matching, concluding, Grouped, Followed}
+use Rattle.groups.specs.Group.{lefts, byLeft, groupFrom, groupTo, groupNeeds, groupGives, rightIs, symbolIs, Grouped}
+use Rattle.kernel.specs.Follow.{matching, concluding, Followed}
 
 -- what holds of each rule of a group may be put for it in a sum over the group
 module _ (g : Grammar) (a : ℕ) (F H : ℕ → ℕ → ℕ)

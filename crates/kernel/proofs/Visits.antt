@@ -16,7 +16,8 @@ use Rattle.bits.proofs.Nexts.{sum-next, sum-visit}
 use Rattle.derivation.specs.Grammar.{Grammar, pairCount, pairRule}
 use Rattle.kernel.specs.declared.Fired.{Fired}
 use Rattle.kernel.specs.Fire.{hit, hits, conclusions, Concluded}
-use Rattle.kernel.specs.Group.{byLeft, matching, concluding, Followed}
+use Rattle.groups.specs.Group.{byLeft}
+use Rattle.kernel.specs.Follow.{matching, concluding, Followed}
 
 turn : (x y z : ℕ) → x * (y * z) ≡ z * (x * y)
 turn x y z = sym (mul-assoc x y z) ∙ mul-comm (x * y) z

@@ -1,2 +1,2 @@
 pub mod Fire
-pub mod Group
+pub mod Follow

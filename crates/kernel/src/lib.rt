@@ -1,6 +1,4 @@
 // The rules over words: the event rules over an event, and the pair rules over the words of two cells.
-pub mod groups; // the pair rules regrouped by left symbol
-
 ghost use mathlib.Core.Path.{_≡_};
 ghost use Prim.Native.Nat.{_+_, _≤_, _<_, _^_};
 ghost use Rattle.bits.specs.Truth.{same};
@@ -8,7 +6,8 @@ ghost use Rattle.derivation.specs.Grammar.{leafCount, eventRule};
 ghost use Rattle.layout.specs.Layout.{decode};
 ghost use Rattle.image.specs.Image.{Accepted};
 ghost use Rattle.kernel.specs.Fire.{Noted, Concluded, LeafFired};
-ghost use Rattle.kernel.specs.Group.{Grouped, Followed};
+ghost use Rattle.groups.specs.Group.{Grouped};
+ghost use Rattle.kernel.specs.Follow.{Followed};
 
 // A cell's word so far, and the matches counted so far.
 pub struct Fired {

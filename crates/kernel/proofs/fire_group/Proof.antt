@@ -2,7 +2,7 @@
 -- Assumes nothing.
 use mathlib.Core.Path.{refl}
 use Rattle.layout.specs.Layout.{decode}
-use Rattle.kernel.proofs.Places.{Ends, ends-of}
+use Rattle.groups.proofs.Places.{Ends, ends-of}
 use Rattle.kernel.proofs.Unions.{followed-none, followed-all}
 use native.Mathlib.Omega.{arith}
 use borrow.Author.Needs.{needs}

@@ -4,7 +4,7 @@ use mathlib.Core.Path.{_≡_}
 use Prim.Native.Nat.{_+_, _-_, _*_, _≤_, _<_}
 use Rattle.bits.specs.Bit.{bit}
 use Rattle.layout.specs.Layout.{decode}
-use Rattle.kernel.proofs.Read.{left-small}
+use Rattle.groups.proofs.Read.{left-small}
 use Rattle.kernel.proofs.Visits.{Visit, visit-start, visit-step, visit-le, visit-done, none-right, hits-le}
 use borrow.Author.Needs.{needs}
 use native.Mathlib.Omega.{arith}

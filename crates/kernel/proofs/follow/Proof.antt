@@ -4,8 +4,8 @@ use mathlib.Core.Path.{_≡_, subst₂}
 use Prim.Native.Nat.{ℕ, _+_, _-_, _≤_}
 use Rattle.derivation.specs.Grammar.{pairCount}
 use Rattle.layout.specs.Layout.{decode}
-use Rattle.kernel.specs.Group.{lefts, groupFrom}
-use Rattle.kernel.proofs.Places.{Ends, ends-of}
+use Rattle.groups.specs.Group.{lefts, groupFrom}
+use Rattle.groups.proofs.Places.{Ends, ends-of}
 use Rattle.kernel.proofs.Follows.{Walk, walk-start, walk-le, walk-step, walk-done}
 use borrow.Author.Needs.{needs}
 use native.Mathlib.Omega.{arith}

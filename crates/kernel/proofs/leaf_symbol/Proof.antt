@@ -4,7 +4,7 @@ use mathlib.Core.Path.{ap, _∙_}
 use Prim.Native.Nat.{ℕ, _^_}
 use Rattle.layout.specs.Layout.{decode}
 use Rattle.bits.proofs.Bits.{put-alone}
-use Rattle.kernel.proofs.Read.{leaf-read}
+use Rattle.kernel.proofs.Leaves.{leaf-read}
 use native.Mathlib.Omega.{arith}
 use borrow.Author.Needs.{needs}
 use Rattle.kernel.proofs.leaf_symbol.Statement.{statement}

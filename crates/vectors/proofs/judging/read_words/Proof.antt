@@ -1,6 +1,6 @@
 -- The invariant: the room keeps its length, and no more was read than it and the text hold.
 -- Assumes nothing.
-use Prim.Native.Nat.{_≤_, _-_, _/_}
+use Prim.Native.Nat.{_≤_, _-_}
 use mathlib.Core.Path.{_≡_}
 use lib.ListN.{length, length-set}
 use borrow.Author.Needs.{needs}

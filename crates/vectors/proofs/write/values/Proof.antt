@@ -1,10 +1,9 @@
 -- The measure is the number of words that are left.
 -- Assumes nothing.
-use Prim.Native.Nat.{_-_, _≤_}
+use Prim.Native.Nat.{_-_}
 use mathlib.Core.Path.{_≡_}
 use lib.ListN.{length}
 use borrow.Author.Needs.{needs}
-use native.Mathlib.Omega.{arith}
 use Rattle.vectors.proofs.write.values.Statement.{statement}
 use Rattle.vectors.proofs.write.values.Tie as tie
 
