@@ -1,6 +1,6 @@
 SHELL := bash
 .SHELLFLAGS := -o pipefail -c
-.PHONY: example test clean
+.PHONY: example test bench compare clean
 
 # Proves and builds the test of a grammar image, and runs it on an accepted image and on a damaged one.
 example:
@@ -13,3 +13,11 @@ test:
 
 clean:
 	rm -rf target
+
+# Measures `judge` beside the plain loop in Rust; the archive is x86-64 code.
+bench:
+	@tools/bench
+
+# Compares `judge` with a second implementation in Rust on random cases, also on a processor that the archive is not for.
+compare:
+	@tools/bench $$([ "$$(uname -m)" = x86_64 ] || echo --native) --check 20000
