@@ -2,4 +2,4 @@ pub mod Truths
 pub mod Sums
 pub mod Bits
 pub mod Words
-pub mod Nexts
+pub mod First

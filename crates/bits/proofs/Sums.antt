@@ -26,6 +26,11 @@ unfolding sum
 sum-zero zero f h = refl
 sum-zero (suc n) f h = omega (arith, sum-zero n f (λ x l. h x (le-step l)), h n (lt-suc-self n))
 
+pub sum-mono : (n : ℕ) (f g : ℕ → ℕ) → ((x : ℕ) → x < n → f x ≤ g x) → sum n f ≤ sum n g
+unfolding sum
+sum-mono zero f g h = zero-le
+sum-mono (suc n) f g h = omega (arith, sum-mono n f g (λ x l. h x (le-step l)), h n (lt-suc-self n))
+
 pub sum-le : (n c : ℕ) (f : ℕ → ℕ) → ((x : ℕ) → x < n → f x ≤ c) → sum n f ≤ n * c
 unfolding sum
 sum-le zero c f h = zero-le

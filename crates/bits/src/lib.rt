@@ -2,7 +2,7 @@
 ghost use mathlib.Core.Path.{_≡_};
 ghost use Prim.Native.Nat.{_≤_, _<_};
 ghost use Rattle.bits.specs.Sum.{sum};
-ghost use Rattle.bits.specs.Bit.{bit, put, Next};
+ghost use Rattle.bits.specs.Bit.{bit, put, Without};
 
 // Bit a of a word: 0 or 1.
 pub fn bit_of(word: u64, a: usize) -> u64
@@ -27,17 +27,18 @@ pub fn ones(word: u64) -> u32
     u64::count_ones(word)
 }
 
-// The first set bit from `from` on, or 64 where there is none.
-pub fn next_bit(word: u64, from: usize) -> usize
-    requires { ⌜ from ≤ 64 ⌝ }
-    ensures { λ r. ⌜ Next word from r ⌝ }
+// The first set bit of a word that has one.
+pub fn first_bit(word: u64) -> usize
+    requires { ⌜ 0 < word ⌝ }
+    ensures { λ r. ⌜ (r < 64) × (bit word r ≡ 1) ⌝ }
 {
-    if from == 64 {
-        return 64;
-    }
-    let rest = word >> from;
-    if rest == 0 {
-        return 64;
-    }
-    from + u64::trailing_zeros(rest) as usize
+    u64::trailing_zeros(word) as usize
+}
+
+// A word without a bit that it has.
+pub fn without(word: u64, a: usize) -> u64
+    requires { ⌜ (a < 64) × (bit word a ≡ 1) ⌝ }
+    ensures { λ r. ⌜ Without word a r ⌝ }
+{
+    word - (1 << a)
 }

@@ -1,18 +1,17 @@
--- The set symbols of the left word, visited one after the other, add what all pair rules add: the sum over symbols and their rules is
+-- The set symbols of the left word, each visited once, add what all pair rules add: the sum over symbols and their rules is
 -- the sum over rules, because each rule has one left symbol.
 -- Assumes nothing.
 use mathlib.Core.Path.{_≡_, sym, ap, ap₂, _∙_}
-use Prim.Native.Nat.{ℕ, _+_, _*_, _^_, _≤_, _<_, max, min}
-use native.Mathlib.Nat.{mul-assoc, mul-comm, mul-zero, add-zero, max-zero}
+use Prim.Native.Nat.{ℕ, _+_, _-_, _*_, _^_, _≤_, _<_, max, min}
+use native.Mathlib.Nat.{mul-assoc, mul-comm, mul-zero, add-zero, max-zero, sub-zero, mul-le-mul-right}
 use native.Mathlib.Omega.{arith}
 use Rattle.bits.specs.Truth.{same}
 use Rattle.bits.specs.Sum.{sum}
-use Rattle.bits.specs.Bit.{bit, meet, Next}
+use Rattle.bits.specs.Bit.{bit, meet, Without}
 use Rattle.bits.proofs.Truths.{same-lt}
-use Rattle.bits.proofs.Sums.{sum-cong, sum-zero, sum-swap, sum-scale, sum-le, sum-at, product-le, some-left}
+use Rattle.bits.proofs.Sums.{sum-cong, sum-zero, sum-swap, sum-scale, sum-add, sum-mono, sum-le, sum-at, product-le, some-left}
 use Rattle.bits.proofs.Bits.{bit-lt, bit-of-zero, bit-one, meet-lt}
 use Rattle.bits.proofs.Words.{meet-one}
-use Rattle.bits.proofs.Nexts.{sum-next, sum-visit}
 use Rattle.derivation.specs.Grammar.{Grammar, pairCount, pairRule}
 use Rattle.kernel.specs.declared.Fired.{Fired}
 use Rattle.kernel.specs.Fire.{hit, hits, conclusions, Concluded}
@@ -21,6 +20,10 @@ use Rattle.kernel.specs.Follow.{matching, concluding, Followed}
 
 turn : (x y z : ℕ) → x * (y * z) ≡ z * (x * y)
 turn x y z = sym (mul-assoc x y z) ∙ mul-comm (x * y) z
+
+-- F of each symbol of u that is not in rest, added up
+unfoldable pub visited : (u rest : ℕ) → (ℕ → ℕ) → ℕ
+visited u rest F = sum 64 (λ s. (bit u s - bit rest s) * F s)
 
 module _ (g : Grammar) (u v : ℕ) where
   hit-le : (b : ℕ) → hit g u v b ≤ 1
@@ -45,24 +48,49 @@ module _ (g : Grammar) (u v : ℕ) where
     count = sym (add-zero (f .count)) ∙ ap (λ (s : ℕ). f .count + s) (sym (sum-zero (pairCount g) _ (λ b l. none-hit e b)));
   }
 
-  -- ---- the symbols before a are visited
-  pub record Visit (was now : Fired) (a : ℕ) : Type 0 where
-    pub word : (A : ℕ) → bit (now .word) A ≡ max (bit (was .word) A) (min 1 (sum a (λ s. bit u s * byLeft g s (concluding v A) (pairCount g))))
-    pub count : now .count ≡ was .count + sum a (λ s. bit u s * byLeft g s (matching v) (pairCount g))
+  -- ---- all symbols of u but those of rest are visited, in any order
+  pub record Visit (was now : Fired) (rest : ℕ) : Type 0 where
+    pub part : (s : ℕ) → bit rest s ≤ bit u s
+    pub word : (A : ℕ) → bit (now .word) A ≡ max (bit (was .word) A) (min 1 (visited u rest (λ s. byLeft g s (concluding v A) (pairCount g))))
+    pub count : now .count ≡ was .count + visited u rest (λ s. byLeft g s (matching v) (pairCount g))
 
-  pub visit-start : (f : Fired) (a : ℕ) → Next u 0 a → Visit f f a
-  unfolding sum
-  visit-start f a n = record {
-    word = λ A. sym (max-zero (bit (f .word) A)) ∙ ap (λ (s : ℕ). max (bit (f .word) A) (min 1 s)) (sym (sum-next u 0 a (λ s. byLeft g s (concluding v A) (pairCount g)) n));
-    count = sym (add-zero (f .count)) ∙ ap (λ (s : ℕ). f .count + s) (sym (sum-next u 0 a (λ s. byLeft g s (matching v) (pairCount g)) n));
+  none-visited : (F : ℕ → ℕ) → visited u u F ≡ 0
+  unfolding visited
+  none-visited F = sum-zero 64 _ (λ s l. let e : bit u s - bit u s ≡ 0 = omega arith in rw e (omega arith))
+
+  all-visited : (F : ℕ → ℕ) → visited u 0 F ≡ sum 64 (λ s. bit u s * F s)
+  unfolding visited
+  all-visited F = sum-cong 64 _ _ (λ s l. rw (bit-of-zero s, sub-zero (bit u s)))
+
+  -- one symbol more
+  module _ (rest a less : ℕ) (part : (s : ℕ) → bit rest s ≤ bit u s) (w : Without rest a less) (small : a < 64) where
+    pub part-less : (s : ℕ) → bit less s ≤ bit u s
+    part-less s = omega (arith, part s, w .bits s)
+
+    one-visited : (F : ℕ → ℕ) → visited u less F ≡ visited u rest F + F a
+    unfolding visited
+    one-visited F =
+        sum-cong 64 _ _ (λ s l. split (bit u s) (bit rest s) (bit less s) (same a s) (F s) (part s) (w .bits s))
+        ∙ sum-add 64 (λ s. (bit u s - bit rest s) * F s) (λ s. F s * same a s)
+        ∙ ap (λ (x : ℕ). sum 64 (λ s. (bit u s - bit rest s) * F s) + x) (sum-at 64 a F small)
+      where
+        split : (x y z e f : ℕ) → y ≤ x → z + e ≡ y → (x - z) * f ≡ (x - y) * f + f * e
+        split x y z e f p q = let d : x - z ≡ x - y + e = omega arith in rw d (omega arith)
+
+  pub visit-start : (f : Fired) → Visit f f u
+  visit-start f = record {
+    part = λ s. omega arith;
+    word = λ A. sym (max-zero (bit (f .word) A)) ∙ ap (λ (s : ℕ). max (bit (f .word) A) (min 1 s)) (sym (none-visited _));
+    count = sym (add-zero (f .count)) ∙ ap (λ (s : ℕ). f .count + s) (sym (none-visited _));
   }
 
-  pub visit-step : (was f h : Fired) (a r : ℕ) → bit u a ≡ 1 → Next u (a + 1) r → Visit was f a → Followed g v a f h → Visit was h r
-  visit-step was f h a r e n w o = record {
+  pub visit-step : (was f h : Fired) (rest a less : ℕ) → a < 64 → Without rest a less → Visit was f rest → Followed g v a f h → Visit was h less
+  visit-step was f h rest a less small n w o = record {
+    part = part-less rest a less (w .part) n small;
     word = λ A.
         o .word A ∙ some-left (bit (was .word) A) _ (bit (f .word) A) (w .word A) _
-        ∙ ap (λ (s : ℕ). max (bit (was .word) A) (min 1 s)) (sym (sum-visit u a r (λ s. byLeft g s (concluding v A) (pairCount g)) e n));
-    count = omega (arith, o .count, w .count, sum-visit u a r (λ s. byLeft g s (matching v) (pairCount g)) e n);
+        ∙ ap (λ (s : ℕ). max (bit (was .word) A) (min 1 s)) (sym (one-visited rest a less (w .part) n small (λ s. byLeft g s (concluding v A) (pairCount g))));
+    count = omega (arith, o .count, w .count, one-visited rest a less (w .part) n small (λ s. byLeft g s (matching v) (pairCount g)));
   }
 
   followed-le : (a : ℕ) → byLeft g a (matching v) (pairCount g) ≤ pairCount g
@@ -76,6 +104,10 @@ module _ (g : Grammar) (u v : ℕ) where
 
   pub visit-le : (f h : Fired) (a : ℕ) → Followed g v a f h → h .count ≤ f .count + pairCount g
   visit-le f h a o = omega (arith, o .count, followed-le a)
+
+  visited-le : (rest : ℕ) (F : ℕ → ℕ) → visited u rest F ≤ sum 64 (λ s. bit u s * F s)
+  unfolding visited
+  visited-le rest F = sum-mono 64 _ _ (λ s l. mul-le-mul-right (F s) (omega arith))
 
   -- ---- all of them
   module _ (fits : (b : ℕ) → b < pairCount g → pairRule g b .left < 64) where
@@ -104,8 +136,12 @@ module _ (g : Grammar) (u v : ℕ) where
         ap₂ (λ (x y : ℕ). bit u (pairRule g b .left) * (x * y)) (meet-one v (pairRule g b .right)) (bit-one (pairRule g b .symbol) A)
         ∙ sym (mul-assoc (bit u (pairRule g b .left)) (bit v (pairRule g b .right)) (same (pairRule g b .symbol) A)))
 
-    pub visit-done : (was f : Fired) → Visit was f 64 → Concluded g u v was f
-    visit-done was f w = record {
-      word = λ A. w .word A ∙ ap (λ (s : ℕ). max (bit (was .word) A) (min 1 s)) (concluded A);
-      count = w .count ∙ ap (λ (s : ℕ). was .count + s) matched;
+    pub visit-done : (was f : Fired) (rest : ℕ) → rest ≡ 0 → Visit was f rest → Concluded g u v was f
+    visit-done was f rest z w = record {
+      word = λ A. w .word A ∙ ap (λ (s : ℕ). max (bit (was .word) A) (min 1 s)) (ap (λ (r : ℕ). visited u r (λ s. byLeft g s (concluding v A) (pairCount g))) z ∙ all-visited _ ∙ concluded A);
+      count = w .count ∙ ap (λ (s : ℕ). was .count + s) (ap (λ (r : ℕ). visited u r (λ s. byLeft g s (matching v) (pairCount g))) z ∙ all-visited _ ∙ matched);
     }
+
+    -- no more matches were counted than there are rules
+    pub visit-few : (was f : Fired) (rest : ℕ) → Visit was f rest → f .count ≤ was .count + pairCount g
+    visit-few was f rest w = omega (arith, w .count, visited-le rest (λ s. byLeft g s (matching v) (pairCount g)), matched, hits-le)

@@ -121,10 +121,11 @@ pub fn fire_pairs(image: &[u8], table: &[u64; 768], left: u64, right: u64, into:
         return into;
     }
     let mut f = into;
-    let mut a = bits::next_bit(left, 0);
-    while a < 64 {
+    let mut rest = left;
+    while rest != 0 {
+        let a = bits::first_bit(rest);
         f = fire_group(image, table, a, right, f);
-        a = bits::next_bit(left, a + 1);
+        rest = bits::without(rest, a);
     }
     f
 }

@@ -1,67 +1,53 @@
--- The invariant: the set symbols before a are visited, and a is the next.
+-- The invariant: all symbols of the left word but those of `rest` are visited.
 -- Assumes nothing.
-use mathlib.Core.Path.{_≡_}
-use Prim.Native.Nat.{_+_, _-_, _*_, _≤_, _<_}
-use Rattle.bits.specs.Bit.{bit}
-use Rattle.layout.specs.Layout.{decode}
-use Rattle.groups.proofs.Read.{left-small}
-use Rattle.kernel.proofs.Visits.{Visit, visit-start, visit-step, visit-le, visit-done, none-right, hits-le}
 use borrow.Author.Needs.{needs}
 use native.Mathlib.Omega.{arith}
+use Rattle.layout.specs.Layout.{decode}
+use Rattle.groups.proofs.Read.{left-small}
+use Rattle.kernel.proofs.Visits.{Visit, visit-start, visit-step, visit-few, visit-done, none-right}
 use Rattle.kernel.proofs.fire_pairs.Statement.{statement}
 use Rattle.kernel.proofs.fire_pairs.Tie as tie
 
 abbrev Inv-loop : tie.InvT-loop
-Inv-loop image table left right f₀ a₀ f a =
-    (a ≤ 64) × (a < 64 → bit left a ≡ 1) × (f .count ≤ f₀ .count + 256 * a) × Visit (decode image) left right f₀ f a
+Inv-loop image table left right f₀ rest₀ f rest = Visit (decode image) left right f₀ f rest
 
 abbrev μ-loop : tie.MeasureT-loop
-μ-loop image table left right f₀ a₀ f a = 64 - a
+μ-loop image table left right f₀ rest₀ f rest = rest
 
 returns : tie.Need-returns Inv-loop μ-loop
 returns c = (none-right _ _ _ (c .if1 .taken) _, omega arith)
 
-next-bit-requires : tie.Need-next-bit-requires Inv-loop μ-loop
-next-bit-requires c κs = search needs
-
 loop-holds : tie.Need-loop-holds Inv-loop μ-loop
-loop-holds c =
-    let n = c .next-bit .ensures in
-    (n .small, n .here, omega arith, visit-start _ _ _ _ _ n)
+loop-holds c = visit-start _ _ _ _
+
+first-bit-requires : tie.Need-first-bit-requires Inv-loop μ-loop
+first-bit-requires c κs = search needs
 
 fire-group-requires : tie.Need-fire-group-requires Inv-loop μ-loop
 fire-group-requires c κs =
-    let p = c .before .before .before .before .before .pre in
-    (p .0, (p .1 .0, (c .loop-test .taken, omega arith)))
+    let s = c .before .before .before .before .before in
+    let n = visit-few (decode (s .args .image .now)) (s .args .left) (s .args .right) (left-small _ (s .pre .0 .sound)) _ _ _ (c .before .before .loop .inv) in
+    (s .pre .0, (s .pre .1 .0, (c .first-bit .ensures .0, omega (arith, s .pre .0 .sound .range .pairs))))
 
-add-next-bit : tie.Need-add-next-bit Inv-loop μ-loop
-add-next-bit c = search needs
-
-next-bit-requires-2 : tie.Need-next-bit-requires-2 Inv-loop μ-loop
-next-bit-requires-2 c κs = search needs
+without-requires : tie.Need-without-requires Inv-loop μ-loop
+without-requires c κs = c .before .first-bit .ensures
 
 loop-less : tie.Need-loop-less Inv-loop μ-loop
-loop-less c = search needs
+loop-less c = c .without .ensures .less
 
 loop-again : tie.Need-loop-again Inv-loop μ-loop
 loop-again c =
-    let n = c .next-bit2 .ensures in
-    let l = c .before .before .before .loop in
-    let o = c .before .fire-group .ensures in
-    let h = c .before .before .before .before .before .before .before .pre .0 .sound .range .pairs in (
-      n .small,
-      n .here,
-      omega (arith, visit-le _ (l .f .word) _ _ _ _ o, n .past),
-      visit-step _ _ _ _ _ _ (l .a) _ (l .inv .1 (c .before .before .loop-test .taken)) n (l .inv .3) o,
-    )
+    visit-step _ _ _ _ _ _ _ _ _ (c .before .before .first-bit .ensures .0) (c .without .ensures) (c .before .before .before .before .loop .inv)
+    (c .before .fire-group .ensures)
 
 returns-2 : tie.Need-returns-2 Inv-loop μ-loop
 returns-2 c =
-    let l = c .before .loop in
-    let s = c .before .before .before .before .before in
-    let e : l .a ≡ 64 = omega arith in
-    let d = visit-done (decode (s .args .image .now)) (s .args .left) (s .args .right) (left-small _ (s .pre .0 .sound)) _ _ (rw e at (l .inv .3)) in
-    (d, omega (arith, d .count, hits-le (decode (s .args .image .now)) (s .args .left) (s .args .right), s .pre .0 .sound .range .pairs))
+    let s = c .before .before .before .before in
+    let fits = left-small (decode (s .args .image .now)) (s .pre .0 .sound) in
+    let w = c .before .loop .inv in (
+      visit-done _ _ _ fits _ _ _ (omega arith) w,
+      omega (arith, visit-few (decode (s .args .image .now)) (s .args .left) (s .args .right) fits _ _ _ w, s .pre .0 .sound .range .pairs),
+    )
 
 pub fire-pairs-spec : {M : Type 1} → statement M
 fire-pairs-spec =
@@ -70,11 +56,10 @@ fire-pairs-spec =
     Inv-loop
     μ-loop
     returns
-    next-bit-requires
     loop-holds
+    first-bit-requires
     fire-group-requires
-    add-next-bit
-    next-bit-requires-2
+    without-requires
     loop-less
     loop-again
     returns-2)
