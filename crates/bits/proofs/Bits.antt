@@ -1,11 +1,11 @@
--- Laws of a word's bits: each is 0 or 1; bit 0 and the bits above it; what `put` changes.
+-- Laws of a word's bits: each is 0 or 1; bit 0 and the bits above it; bits of a union, of what two words share, and of a word of one bit.
 -- Assumes nothing.
 use mathlib.Core.Path.{_≡_, sym, ap, _∙_}
 use Prim.Native.Nat.{ℕ, zero, suc, _*_, _/_, _%_, _^_, _≤_, _<_, max, min}
-use native.Mathlib.Nat.{mul-add-mod-self-right, mod-eq-of-lt, mod-lt, mul-one, one-mul, mul-zero, zero-mul, div-one, div-eq-of-lt, zero-div, zero-lt-suc, lt-of-lt-of-le, lt-of-not-le}
+use native.Mathlib.Nat.{mul-add-mod-self-right, mod-eq-of-lt, mod-lt, mul-one, one-mul, mul-zero, div-one, div-eq-of-lt, zero-div, zero-lt-suc, lt-of-lt-of-le, lt-of-not-le}
 use native.Mathlib.Numerals.{one-add}
 use native.Mathlib.Omega.{arith}
-use lib.Bits.{bitAnd, bitOr, or-zero-l, or-zero-r, and-step, and-shr, or-step, or-shr, shifted-even, shifted-half}
+use lib.Bits.{bitAnd, bitOr, or-zero-l, and-step, and-shr, or-step, or-shr, shifted-even, shifted-half}
 use lib.Pow.{shr-shr, pow-mono}
 use Rattle.bits.specs.Truth.{same}
 use Rattle.bits.specs.Bit.{bit, put, meet}
@@ -50,15 +50,6 @@ bit-shift h zero (suc b) l =
     bit-suc (h * 1) b ∙ ap (λ (x : ℕ). bit x b) (ap (λ (x : ℕ). x / 2) (mul-one h) ∙ div-eq-of-lt l) ∙ bit-of-zero b ∙ sym (mul-zero h)
 bit-shift h (suc a) zero l = bit-zero (h * 2 ^ suc a) ∙ shifted-even h a ∙ sym (mul-zero h)
 bit-shift h (suc a) (suc b) l = bit-suc (h * 2 ^ suc a) b ∙ ap (λ (x : ℕ). bit x b) (shifted-half h a) ∙ bit-shift h a b l
-
--- bit b is as before, or h where b is a
-pub bit-put : (w a h b : ℕ) → h < 2 → bit (put w a h) b ≡ max (bit w b) (h * same a b)
-unfolding put
-bit-put w a h b l = bit-or w (h * 2 ^ a) b ∙ ap (max (bit w b)) (bit-shift h a b l)
-
-pub put-none : (w a : ℕ) → put w a 0 ≡ w
-unfolding put
-put-none w a = ap (bitOr w) (zero-mul (2 ^ a)) ∙ or-zero-r w
 
 -- ---- a word of one bit
 pub bit-and : (x y a : ℕ) → bit (bitAnd x y) a ≡ min (bit x a) (bit y a)

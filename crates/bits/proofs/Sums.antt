@@ -128,10 +128,6 @@ pub between-le : (i k c : ℕ) (f : ℕ → ℕ) → ((j : ℕ) → i < j → j 
 unfolding between
 between-le i k c f h = sum-le (k - (i + 1)) c (λ x. f (i + 1 + x)) (λ x l. h (i + 1 + x) (omega arith) (omega arith))
 
-pub between-zero : (i k : ℕ) (f : ℕ → ℕ) → ((j : ℕ) → i < j → j < k → f j ≡ 0) → between i k f ≡ 0
-unfolding between
-between-zero i k f h = sum-zero (k - (i + 1)) (λ x. f (i + 1 + x)) (λ x l. h (i + 1 + x) (omega arith) (omega arith))
-
 -- a part of it is below the whole
 pub between-room : (i j k : ℕ) (f : ℕ → ℕ) (m : ℕ) → i < j → j < k → m < f j → between i j f + m < between i k f
 unfolding between

@@ -44,12 +44,6 @@ column-mono j (suc k) l =
     ⊎-elim (λ (e : j ≡ k). rw (e, ← add-one k, column-more k) (le-refl _))
     (λ (m : j < k). rw (← add-one k, column-more k) (omega (arith, column-mono j k m))) (eq-or-lt-of-le (le-of-suc-le-suc l))
 
--- a longer record has more cells
-pub cells-mono : (m n : ℕ) → m ≤ n → cells m ≤ cells n
-cells-mono m n h =
-    ⊎-elim (λ (e : m ≡ n). rw e (le-refl (cells n)))
-    (λ (l : m < n). omega (arith, cells-column m, cells-column n, column-mono (m + 1) (n + 1) (omega arith))) (eq-or-lt-of-le h)
-
 -- the cells of a record can be counted with 32 bits
 pub cells-small : (n : ℕ) → n < 65536 → cells n < 4294967296
 unfolding cells

@@ -7,10 +7,9 @@ use native.Mathlib.Nat.{mul-assoc, mul-comm, mul-zero, add-zero, max-zero, sub-z
 use native.Mathlib.Omega.{arith}
 use Rattle.bits.specs.Truth.{same}
 use Rattle.bits.specs.Sum.{sum}
-use Rattle.bits.specs.Bit.{bit, meet, Without}
-use Rattle.bits.proofs.Truths.{same-lt}
+use Rattle.bits.specs.Bit.{bit, Without}
 use Rattle.bits.proofs.Sums.{sum-cong, sum-zero, sum-swap, sum-scale, sum-add, sum-mono, sum-le, sum-at, product-le, some-left}
-use Rattle.bits.proofs.Bits.{bit-lt, bit-of-zero, bit-one, meet-lt}
+use Rattle.bits.proofs.Bits.{bit-lt, bit-of-zero, bit-one}
 use Rattle.bits.proofs.Words.{meet-one}
 use Rattle.derivation.specs.Grammar.{Grammar, pairCount, pairRule}
 use Rattle.kernel.specs.declared.Fired.{Fired}
@@ -92,18 +91,6 @@ module _ (g : Grammar) (u v : ℕ) where
         ∙ ap (λ (s : ℕ). max (bit (was .word) A) (min 1 s)) (sym (one-visited rest a less (w .part) n small (λ s. byLeft g s (concluding v A) (pairCount g))));
     count = omega (arith, o .count, w .count, one-visited rest a less (w .part) n small (λ s. byLeft g s (matching v) (pairCount g)));
   }
-
-  followed-le : (a : ℕ) → byLeft g a (matching v) (pairCount g) ≤ pairCount g
-  unfolding byLeft matching
-  followed-le a =
-      omega (
-        arith,
-        sum-le (pairCount g) 1 (λ b. same (pairRule g b .left) a * meet v (2 ^ pairRule g b .right))
-            (λ b l. product-le _ _ (same-lt (pairRule g b .left) a) (meet-lt v (2 ^ pairRule g b .right))),
-      )
-
-  pub visit-le : (f h : Fired) (a : ℕ) → Followed g v a f h → h .count ≤ f .count + pairCount g
-  visit-le f h a o = omega (arith, o .count, followed-le a)
 
   visited-le : (rest : ℕ) (F : ℕ → ℕ) → visited u rest F ≤ sum 64 (λ s. bit u s * F s)
   unfolding visited
