@@ -1,4 +1,4 @@
-// A word as a set of numbers below 64: one bit is tested, put in, all are counted, the next one is found.
+// A word as a set of numbers below 64: a bit is tested, put in or taken out, all are counted, the first one is found.
 ghost use mathlib.Core.Path.{_≡_};
 ghost use Prim.Native.Nat.{_≤_, _<_};
 ghost use Rattle.bits.specs.Sum.{sum};

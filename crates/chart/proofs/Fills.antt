@@ -53,8 +53,10 @@ module _ (g : Grammar) where
   cell-stored c i k at f e h p = record {
     long = length-set c at (f .word);
     other = λ y n. getD-set-other c at y (f .word) 0 (λ q. n (q ∙ e));
-    word = λ A. ap (λ (x : ℕ). bit x A) (ap (λ (y : ℕ). getD (set c at (f .word)) y 0) (sym e) ∙ getD-set-same c at (f .word) 0 h) ∙ p .word A;
-    count = p .count;
+    cell = record {
+      word = λ A. ap (λ (x : ℕ). bit x A) (ap (λ (y : ℕ). getD (set c at (f .word)) y 0) (sym e) ∙ getD-set-same c at (f .word) 0 h) ∙ p .word A;
+      count = p .count;
+    };
   }
 
   -- ---- a cell reads columns below its own, and cells above it in its own
@@ -107,7 +109,7 @@ module _ (g : Grammar) where
     hits-kept x h = hits-stay c d x (q + 1) kept-low (λ y l o. sym (f .other y (λ z. omega arith)))
 
     here : (A : ℕ) → bit (rd d j (q + 1)) A ≡ min 1 (cellConclusions g d j (q + 1) A)
-    here A = f .word A ∙ ap (min 1) (conclusions-kept j (le-refl j) A)
+    here A = f .cell .word A ∙ ap (min 1) (conclusions-kept j (le-refl j) A)
 
     total : sum (q - j) (λ x. cellHits g d (j + x) (q + 1)) ≡ cellHits g c j (q + 1) + sum (q - i) (λ x. cellHits g c (i + x) (q + 1))
     total =
@@ -127,7 +129,7 @@ module _ (g : Grammar) where
           (λ (z : j ≡ x). subst (λ (y : ℕ). (A : ℕ) → bit (rd d y (q + 1)) A ≡ min 1 (cellConclusions g d y (q + 1) A)) z here)
           (λ (o : j < x). λ A. ap (λ (y : ℕ). bit y A) (f .other _ (λ z. omega arith)) ∙ was .inner x (omega arith) l A ∙ ap (min 1) (conclusions-kept x h A))
           (eq-or-lt-of-le h);
-      counted = omega (arith, total, was .counted, f .count);
+      counted = omega (arith, total, was .counted, f .cell .count);
     }
 
   -- all of it, from the chart before the leaf was stored

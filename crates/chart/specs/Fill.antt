@@ -25,17 +25,16 @@ cellHits g c i k = between i k (λ j. hits g (rd c i j) (rd c j k))
 unfoldable pub cellConclusions : Grammar → List ℕ → (i k A : ℕ) → ℕ
 cellConclusions g c i k A = between i k (λ j. conclusions g (rd c i j) (rd c j k) A)
 
--- f is the word of cell (i, k): bit A is one exactly where some rule and split conclude A
+-- f is the word of cell (i, k), bit A of it one exactly where some rule and split conclude A, and its firings
 pub record CellIs (g : Grammar) (c : List ℕ) (i k : ℕ) (f : Fired) : Type 0 where
   pub word : (A : ℕ) → bit (f .word) A ≡ min 1 (cellConclusions g c i k A)
   pub count : f .count ≡ cellHits g c i k
 
--- before became after: cell (i, k) is worked out from the other words, of which none changed
+-- before became after: cell (i, k) is worked out from the other words, of which none changed, n its firings
 pub record CellFilled (g : Grammar) (i k : ℕ) (before after : List ℕ) (n : ℕ) : Type 0 where
   pub long : length after ≡ length before
   pub other : (y : ℕ) → y ≢ cellAt i k → getD after y 0 ≡ getD before y 0
-  pub word : (A : ℕ) → bit (rd after i k) A ≡ min 1 (cellConclusions g before i k A)
-  pub count : n ≡ cellHits g before i k
+  pub cell : CellIs g before i k (record { word = rd after i k; count = n })
 
 -- ---- columns: column q is cells (0, q + 1) to (q, q + 1)
 -- the cell of one event comes from the event rules, the others from the rest of the chart

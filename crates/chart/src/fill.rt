@@ -48,13 +48,7 @@ fn fill_cell(image: &[u8], table: &[u64; 768], chart: &mut [u64], i: usize, k: u
 }
 
 // Column q: the cells that end at q + 1, from the last down.
-pub fn fill_column(
-    image: &[u8],
-    table: &[u64; 768],
-    event: usize,
-    chart: &mut [u64],
-    q: usize,
-) -> u64
+fn fill_column(image: &[u8], table: &[u64; 768], event: usize, chart: &mut [u64], q: usize) -> u64
     requires { ⌜ Accepted (now image) ⌝ }
     requires { ⌜ Grouped (decode (now image)) (now table) ⌝ }
     requires { ⌜ (q + 1 < 65536) × (cellAt q (q + 1) < length (now chart)) ⌝ }

@@ -44,9 +44,9 @@ fn ranged(image: &[u8]) -> bool
     requires { ⌜ headerBytes ≤ length (now image) ⌝ }
     ensures { λ ok. ⌜ Decides ok (Ranged (now (image .entry))) ⌝ }
 {
-    let symbols = layout::byte_at(image, 5);
-    let leaves = layout::word_at(image, 6);
-    let pairs = layout::word_at(image, 8);
+    let symbols = layout::symbol_count(image);
+    let leaves = layout::leaf_count(image);
+    let pairs = layout::pair_count(image);
     if symbols < 1 {
         return false;
     }
@@ -67,9 +67,8 @@ fn sized(image: &[u8]) -> bool
     ensures { λ ok. ⌜ Decides ok (Sized (now (image .entry))) ⌝ }
 {
     let from = layout::rules_from(image);
-    let leaves = layout::word_at(image, 6);
-    let pairs = layout::word_at(image, 8);
-    if image.len() == from + 3 * (leaves + pairs) {
+    let rules = layout::rule_count(image);
+    if image.len() == from + 3 * rules {
         return true;
     }
     false

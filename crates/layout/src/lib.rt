@@ -9,7 +9,7 @@ pub const HEADER_BYTES: usize = 10;
 
 // ---- numbers
 
-pub fn byte_at(image: &[u8], at: usize) -> usize
+fn byte_at(image: &[u8], at: usize) -> usize
     requires { ⌜ at < length (now image) ⌝ }
     ensures { λ r. ⌜ (r ≡ byteAt (now (image .entry)) at) × (r < 256) ⌝ }
 {
