@@ -1,0 +1,119 @@
+-- The invariant: each word of the cell is the held sum of what the rules passed add.
+-- Assumes nothing.
+use mathlib.Core.Path.{_≡_}
+use Prim.Native.Nat.{_+_, _-_, _≤_}
+use native.Mathlib.Nat.{le-trans, le-refl}
+use native.Mathlib.Omega.{arith}
+use lib.ListN.{length}
+use denote.Ref.{now}
+use Rattle.derivation.specs.Grammar.{pairCount}
+use Rattle.layout.specs.Layout.{decode}
+use Rattle.table.specs.Fill.{pairAdds, Summed}
+use Rattle.table.proofs.Cells.{summed-start, pairs-on}
+use Rattle.table.proofs.Slots.{cell-fits}
+use borrow.Author.Needs.{needs}
+use Rattle.table.proofs.fill.add_pairs.Statement.{statement}
+use Rattle.table.proofs.fill.add_pairs.Tie as tie
+
+abbrev Inv-loop : tie.InvT-loop
+Inv-loop image table₀ base i k symbols leaves pairs b₀ table b =
+    (b ≤ pairs) × Summed (pairAdds (decode image) table₀ i k) b base (decode image .symbols) table₀ table
+
+abbrev μ-loop : tie.MeasureT-loop
+μ-loop image table₀ base i k symbols leaves pairs b₀ table b = pairs - b
+
+-- the words of the cell are in the table
+inside : (c : tie.Start Inv-loop μ-loop) → c .args .base + decode (now (c .args .image)) .symbols ≤ length (now (c .args .table))
+inside c =
+    let p = c .pre .1 in
+    rw (p .1 .0) (le-trans (cell-fits (decode (now (c .args .image)) .symbols) _ _ _ (omega (arith, p .0 .0)) (le-refl _)) (p .0 .2))
+
+symbol-count-requires : tie.Need-symbol-count-requires Inv-loop μ-loop
+symbol-count-requires c κs = search needs
+
+leaf-count-requires : tie.Need-leaf-count-requires Inv-loop μ-loop
+leaf-count-requires c κs = search needs
+
+pair-count-requires : tie.Need-pair-count-requires Inv-loop μ-loop
+pair-count-requires c κs = search needs
+
+loop-holds : tie.Need-loop-holds Inv-loop μ-loop
+loop-holds c = (omega arith, summed-start _ _ _ _ (c .before .before .before .before .before .pre .1 .1 .1))
+
+pair-of-requires : tie.Need-pair-of-requires Inv-loop μ-loop
+pair-of-requires c κs = search needs
+
+sum-splits-requires : tie.Need-sum-splits-requires Inv-loop μ-loop
+sum-splits-requires c κs =
+    let l = c .before .before .before in
+    let p = l .before .before .before .before .before .before .pre in
+    let n = l .before .before .before .symbol-count .ensures .0 in
+    let a = c .before .pair-of .ensures in (
+      record {
+        symbols = rw n (a .few);
+        left = rw n (a .left-fits);
+        right = rw n (a .right-fits);
+        some = omega (arith, p .1 .0 .0);
+        few = p .1 .0 .1;
+        fits = rw (n, l .loop .inv .1 .frame .long) (p .1 .0 .2);
+      },
+      p .1 .0 .0,
+    )
+
+add-add-word : tie.Need-add-add-word Inv-loop μ-loop
+add-add-word c =
+    let q = c .before .before .before .before in
+    let s = q .before .before .before .before .before .before .before .before in
+    omega (arith, q .pair-of .ensures .symbol-fits, inside s, s .good .1 .0 .0)
+
+add-word-requires : tie.Need-add-word-requires Inv-loop μ-loop
+add-word-requires c κs =
+    let q = c .before .before .before .before in
+    let s = q .before .before .before .before .before .before .before .before in
+    omega (arith, q .pair-of .ensures .symbol-fits, inside s, q .before .before .loop .inv .1 .frame .long)
+
+add-b : tie.Need-add-b Inv-loop μ-loop
+add-b c = search needs
+
+loop-less : tie.Need-loop-less Inv-loop μ-loop
+loop-less c = search needs
+
+loop-again : tie.Need-loop-again Inv-loop μ-loop
+loop-again c =
+    let q = c .before .before .before .before .before .before .before in
+    let l = q .before .before in
+    let s = l .before .before .before .before .before .before in (
+      omega (arith, q .before .loop-test .taken),
+      rw (c .before .before .add-word .ensures)
+          (pairs-on _ _ _ _ _ _ _ (l .loop .inv .1) _ (q .pair-of .ensures) (s .pre .1 .1 .0) (inside s) _ _ (l .before .before .before .symbol-count .ensures .0)
+          (c .before .before .before .before .before .sum-splits .ensures)),
+    )
+
+same-length : tie.Need-same-length Inv-loop μ-loop
+same-length c = c .before .loop .inv .1 .frame .long
+
+returns : tie.Need-returns Inv-loop μ-loop
+returns c =
+    let v = c .before .loop .inv in
+    let e : c .before .loop .b ≡ pairCount (decode (c .before .before .before .before .before .before .before .args .image .now)) = omega arith in
+    rw e at (v .1)
+
+pub add-pairs-spec : {M : Type 1} → statement M
+add-pairs-spec =
+    tie.close
+    (tie.spec
+    Inv-loop
+    μ-loop
+    symbol-count-requires
+    leaf-count-requires
+    pair-count-requires
+    loop-holds
+    pair-of-requires
+    sum-splits-requires
+    add-add-word
+    add-word-requires
+    add-b
+    loop-less
+    loop-again
+    same-length
+    returns)

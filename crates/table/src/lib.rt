@@ -1,0 +1,74 @@
+// The count table: how many derivations each symbol has over each stretch, each cell from the cells of the shorter stretches inside it.
+mod numbers; // numbers held at the limit
+mod splits; // the words of a table, and what they say of a stretch in two parts
+mod fill; // cells and columns
+
+ghost use mathlib.Core.Path.{_≡_};
+ghost use Prim.Native.Nat.{_≤_, _<_};
+ghost use lib.ListN.{length, getD};
+ghost use Rattle.layout.specs.Layout.{decode};
+ghost use Rattle.image.specs.Image.{Accepted};
+ghost use Rattle.table.specs.Table.{slotOf, tableWords, Filled};
+ghost use Rattle.table.specs.Fill.{splitAdds, InReach, TotalIs};
+
+// The largest number that a word of the table shows.
+pub const LIMIT: u32 = 4294967295;
+
+// How many words the table of a record of n events needs.
+pub fn words_needed(symbols: usize, n: usize) -> usize
+    requires { ⌜ (symbols ≤ 64) × (n < 65536) ⌝ }
+    ensures { λ r. ⌜ r ≡ tableWords symbols n ⌝ }
+{
+    symbols * derivation::cell_count(n)
+}
+
+// Fills the table of a record, column after column.
+pub fn fill_table(image: &[u8], events: &[u16], table: &mut [u32])
+    requires { ⌜ Accepted (now image) ⌝ }
+    requires { ⌜ (length (now events) < 65536) × (tableWords (decode (now image) .symbols) (length (now events)) ≤ length (now table)) ⌝ }
+    ensures { λ _. ⌜ Filled (decode (now (image .entry))) (now (events .entry)) (now (table .entry)) (now (table .exit)) ⌝ }
+{
+    let mut k = 0;
+    while k < events.len() {
+        k += 1;
+        fill::fill_column(image, events, table, k);
+    }
+}
+
+// The word for a symbol over i to k.
+pub fn word_of(table: &[u32], symbols: usize, symbol: usize, i: usize, k: usize) -> u32
+    requires { ⌜ (symbols ≤ 64) × (symbol < symbols) × (i < k) × (k < 65536) × (tableWords symbols k ≤ length (now table)) ⌝ }
+    ensures { λ r. ⌜ r ≡ getD (now (table .entry)) (slotOf symbols symbol i k) 0 ⌝ }
+{
+    let at = splits::slot(symbols, symbol, i, k);
+    table[at]
+}
+
+// What two symbols add over i to k with the split j.
+pub fn split_count(
+    table: &[u32],
+    symbols: usize,
+    left: usize,
+    right: usize,
+    i: usize,
+    k: usize,
+    j: usize,
+) -> u32
+    requires { ⌜ InReach (now table) symbols left right i k × (i < j) × (j < k) ⌝ }
+    ensures { λ r. ⌜ r ≡ splitAdds (now (table .entry)) symbols left right i k j ⌝ }
+{
+    let first = word_of(table, symbols, left, i, j);
+    let second = word_of(table, symbols, right, j, k);
+    numbers::held_product(first, second)
+}
+
+// The word for symbol 0 over all of n events, or 0 where there are none.
+pub fn total_in(table: &[u32], symbols: usize, n: usize) -> u32
+    requires { ⌜ (0 < symbols) × (symbols ≤ 64) × (n < 65536) × (tableWords symbols n ≤ length (now table)) ⌝ }
+    ensures { λ r. ⌜ TotalIs (now (table .entry)) symbols n r ⌝ }
+{
+    if n == 0 {
+        return 0;
+    }
+    word_of(table, symbols, 0, 0, n)
+}
