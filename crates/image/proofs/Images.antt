@@ -51,7 +51,7 @@ acceptance rows g t p q = record {
 }
 
 -- the number 0 says that every demand holds
-all-hold : (rows : List Row) → Positive rows → (n : ℕ) → n ≡ 0 → First rows n → AllHold rows
+pub all-hold : (rows : List Row) → Positive rows → (n : ℕ) → n ≡ 0 → First rows n → AllHold rows
 all-hold rows z n e p = first-zero rows z (subst (FirstOf rows) e (p .is))
 
 -- ---- within the test of an image
@@ -114,10 +114,11 @@ module _ (b : List ℕ) where
   tested-accepted t p e = accepted (subst (First (imageRows b)) e (p .number))
 
   -- the test of a record says the same, and that the events are not too many
+  pub record-holding : (n : ℕ) → AllHold (recordRows b n) → Accepted b × (n ≤ mostEvents)
+  record-holding n h = (holding (all-front (imageRows b) (eventRows n) h), all-back (imageRows b) (eventRows n) h .0)
+
   pub record-accepted : (n : ℕ) (t : Tested) → TestedIs (recordRows b n) (decode b) t → t .number ≡ 0 → Accepted b × (n ≤ mostEvents)
-  record-accepted n t p e =
-      let h = all-hold (recordRows b n) (omega arith) (t .number) e (p .number) in
-      (holding (all-front (imageRows b) (eventRows n) h), all-back (imageRows b) (eventRows n) h .0)
+  record-accepted n t p e = record-holding n (all-hold (recordRows b n) (omega arith) (t .number) e (p .number))
 
 -- ---- for the test of a record, and for the services above: a table is the one before it and more rows
 module _ (rows more : List Row) {g : Grammar} (t : Tested) (p : TestedIs rows g t) where

@@ -1,0 +1,3 @@
+pub mod Refuses
+pub mod Only
+pub mod Numbered

@@ -1,0 +1,85 @@
+-- Each service's contract admits one outcome only: the answer and every lent word.
+-- Assumes nothing.
+use mathlib.Core.Path.{_≡_, refl, sym, _∙_, subst}
+use mathlib.Core.Logic.{_⊎_, inl, inr, _≢_, ⊎-elim}
+use mathlib.Core.List.{List}
+use Prim.Native.Nat.{ℕ, _<_}
+use native.Mathlib.Decide.{ℕ-discrete}
+use lib.ListN.{length}
+use Rattle.bits.proofs.Truths.{decides-only}
+use Rattle.derivation.specs.Tree.{IsReading}
+use Rattle.layout.specs.Layout.{decode}
+use Rattle.image.proofs.Refusals.{first-only}
+use Rattle.table.proofs.Tables.{filled-only}
+use Rattle.readings.specs.declared.Counted.{Counted}
+use Rattle.readings.specs.declared.Read.{Read}
+use Rattle.readings.specs.declared.Checked.{Checked}
+use Rattle.readings.specs.Count.{howMany, CountIs}
+use Rattle.readings.specs.Reading.{numberRows, Fills, ReadingIs}
+use Rattle.readings.specs.Check.{CheckIs}
+use Rattle.readings.proofs.Refuses.{count-ok, lent-ok, lent-past}
+
+counted-eq : (r s : Counted) → r .number ≡ s .number → r .total ≡ s .total → r ≡ s
+counted-eq r s e f = λ i. record { number = e i; total = f i }
+
+read-eq : (r s : Read) → r .number ≡ s .number → r ≡ s
+read-eq r s e = λ i. record { number = e i }
+
+checked-eq : (r s : Checked) → r .number ≡ s .number → r .yes ≡ s .yes → r ≡ s
+checked-eq r s e f = λ i. record { number = e i; yes = f i }
+
+pub count-only : (b w before : List ℕ) (r s : Counted) (t u : List ℕ) → CountIs b w before r t → CountIs b w before s u → (r ≡ s) × (t ≡ u)
+count-only b w before r s t u p q = go (ℕ-discrete (r .number) 0)
+  where
+    e : r .number ≡ s .number
+    e = first-only (p .number) (q .number)
+
+    go : Dec (r .number ≡ 0) → (r ≡ s) × (t ≡ u)
+    go (yes z) =
+        let x = p .answered z in
+        let y = q .answered (sym e ∙ z) in (
+          counted-eq r s e (x .total ∙ sym (y .total)),
+          filled-only (decode b) w before t u (count-ok b _ _ _ z (p .number) .image .sound .range .some) (x .table) (y .table),
+        )
+    go (no z) =
+        let x = p .refused z in
+        let y = q .refused (λ f. z (e ∙ f)) in
+        (counted-eq r s e (x .total ∙ sym (y .total)), x .kept ∙ sym (y .kept))
+
+fills? : (n : ℕ) → Dec (Fills n)
+fills? n = elim (ℕ-discrete n 0) [
+  | yes a ↦ yes (inl a)
+  | no a ↦ elim (ℕ-discrete n 12) [
+    | yes b ↦ yes (inr (inl b))
+    | no b ↦ elim (ℕ-discrete n 13) [ yes c ↦ yes (inr (inr c)) | no c ↦ no (⊎-elim a (⊎-elim b c)) ]
+  ]
+]
+
+pub reading-only : (b w : List ℕ) (k : ℕ) (table room : List ℕ) (r s : Read) (t u o v : List ℕ)
+    → ReadingIs b w k table room r t o → ReadingIs b w k table room s u v → (r ≡ s) × (t ≡ u) × (o ≡ v)
+reading-only b w k table room r s t u o v p q = (read-eq r s e, tables (fills? (r .number)), rooms (ℕ-discrete (r .number) 0))
+  where
+    e : r .number ≡ s .number
+    e = first-only (p .number) (q .number)
+
+    -- a reading that gets as far as the table has an image with a symbol
+    some : Fills (r .number) → 0 < decode b .symbols
+    some h = lent-ok b _ _ _ 0 refl (lent-past b _ _ _ (numberRows k (howMany (decode b) w)) (r .number) h (p .number)) .count .image .sound .range .some
+
+    tables : Dec (Fills (r .number)) → t ≡ u
+    tables (yes h) = filled-only (decode b) w table t u (some h) (p .filled h) (q .filled (subst Fills e h))
+    tables (no h) = p .kept h ∙ sym (q .kept (λ f. h (subst Fills (sym e) f)))
+
+    rooms : Dec (r .number ≡ 0) → o ≡ v
+    rooms (yes z) = p .written z ∙ sym (q .written (sym e ∙ z))
+    rooms (no z) = p .unwritten z ∙ sym (q .unwritten (λ f. z (e ∙ f)))
+
+pub check-only : (b w s : List ℕ) (r t : Checked) → CheckIs b w s r → CheckIs b w s t → r ≡ t
+check-only b w s r t p q = go (ℕ-discrete (r .number) 0)
+  where
+    e : r .number ≡ t .number
+    e = first-only (p .number) (q .number)
+
+    go : Dec (r .number ≡ 0) → r ≡ t
+    go (yes z) = checked-eq r t e (decides-only (IsReading (decode b) w s) (r .yes) (t .yes) (p .answered z) (q .answered (sym e ∙ z)))
+    go (no z) = checked-eq r t e (p .refused z ∙ sym (q .refused (λ f. z (e ∙ f))))

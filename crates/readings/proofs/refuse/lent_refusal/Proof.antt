@@ -1,0 +1,39 @@
+-- The rows of count, and then that of the room.
+-- Assumes nothing.
+use native.Mathlib.Omega.{arith}
+use Rattle.image.proofs.Refusals.{none, fail, pass, first-hit}
+use Rattle.readings.specs.Count.{countRows}
+use Rattle.readings.specs.Reading.{roomRows}
+use Rattle.readings.proofs.Refuses.{past, count-ok}
+use borrow.Author.Needs.{needs}
+use Rattle.readings.proofs.refuse.lent_refusal.Statement.{statement}
+use Rattle.readings.proofs.refuse.lent_refusal.Tie as tie
+
+count-refusal-requires : tie.Need-count-refusal-requires
+count-refusal-requires c κs = search needs
+
+returns : tie.Need-returns
+returns c = first-hit (countRows (c .before .before .before .args .image .now) (c .before .before .before .args .n) (c .before .before .before .args .size)) (roomRows (c .before .before .before .args .n) (c .before .before .before .args .space)) (c .if1 .taken) (c .before .count-refusal .ensures)
+
+script-words-requires : tie.Need-script-words-requires
+script-words-requires c κs = omega (arith, count-ok (c .before .before .before .args .image .now) (c .before .before .before .args .n) (c .before .before .before .args .size) _ (c .if1 .left) (c .before .count-refusal .ensures) .few)
+
+returns-2 : tie.Need-returns-2
+returns-2 c =
+    past (countRows (c .before .before .before .before .before .args .image .now) (c .before .before .before .before .before .args .n) (c .before .before .before .before .before .args .size)) (roomRows (c .before .before .before .before .before .args .n) (c .before .before .before .before .before .args .space)) (omega arith) _ (c .before .before .if1 .left) (c .before .before .before .count-refusal .ensures)
+    (fail (λ h. omega (arith, h, c .if2 .taken, c .before .script-words .ensures)))
+
+returns-3 : tie.Need-returns-3
+returns-3 c =
+    past (countRows (c .before .before .before .before .before .args .image .now) (c .before .before .before .before .before .args .n) (c .before .before .before .before .before .args .size)) (roomRows (c .before .before .before .before .before .args .n) (c .before .before .before .before .before .args .space)) (omega arith) _ (c .before .before .if1 .left) (c .before .before .before .count-refusal .ensures)
+    (pass (rw (c .before .script-words .ensures) at (c .if2 .left)) none)
+
+pub lent-refusal-spec : {M : Type 1} → statement M
+lent-refusal-spec =
+    tie.close
+    (tie.spec
+    count-refusal-requires
+    returns
+    script-words-requires
+    returns-2
+    returns-3)

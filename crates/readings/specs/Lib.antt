@@ -1,0 +1,4 @@
+pub mod Count
+pub mod Reading
+pub mod Check
+pub mod Demand

@@ -1,0 +1,72 @@
+// The readings of a record: how many there are, reading number k, and whether a script is that of a reading.
+mod refuse; // the refusals
+
+ghost use Rattle.readings.specs.Count.{CountIs};
+ghost use Rattle.readings.specs.Reading.{ReadingIs};
+ghost use Rattle.readings.specs.Check.{CheckIs};
+
+// What counting answers: a refusal's number with 0, or 0 with the number of readings, held at the limit.
+pub struct Counted {
+    pub number: u8,
+    pub total: u32,
+}
+
+// What a reading answers: a refusal's number, or 0.
+pub struct Read {
+    pub number: u8,
+}
+
+// What checking answers: a refusal's number with no, or 0 with yes or no.
+pub struct Checked {
+    pub number: u8,
+    pub yes: bool,
+}
+
+// Counts the readings, and fills the table.
+pub fn count(image: &[u8], events: &[u16], table: &mut [u32]) -> Counted
+    ensures { λ r. ⌜ CountIs (now (image .entry)) (now (events .entry)) (now (table .entry)) r (now (table .exit)) ⌝ }
+{
+    let n = events.len();
+    let number = refuse::count_refusal(image, n, table.len());
+    if number != 0 {
+        return Counted { number, total: 0 };
+    }
+    table::fill_table(image, events, table);
+    let symbols = layout::symbol_count(image);
+    let total = table::total_in(table, symbols, n);
+    Counted { number: 0, total }
+}
+
+// Writes the script of reading number k to the front of the room, and fills the table.
+pub fn reading(image: &[u8], events: &[u16], k: u32, table: &mut [u32], room: &mut [u16]) -> Read
+    ensures { λ r. ⌜ ReadingIs (now (image .entry)) (now (events .entry)) k (now (table .entry)) (now (room .entry))
+        r (now (table .exit)) (now (room .exit)) ⌝ }
+{
+    let n = events.len();
+    let early = refuse::lent_refusal(image, n, table.len(), room.len());
+    if early != 0 {
+        return Read { number: early };
+    }
+    table::fill_table(image, events, table);
+    let symbols = layout::symbol_count(image);
+    let total = table::total_in(table, symbols, n);
+    let late = refuse::number_refusal(k, total);
+    if late != 0 {
+        return Read { number: late };
+    }
+    unrank::write_script(image, events, table, 0, 0, n, k, room);
+    Read { number: 0 }
+}
+
+// Whether the words are the script of a reading.
+pub fn check(image: &[u8], events: &[u16], script: &[u16]) -> Checked
+    ensures { λ r. ⌜ CheckIs (now (image .entry)) (now (events .entry)) (now (script .entry)) r ⌝ }
+{
+    let tested = image::test_record(image, events.len());
+    let number = tested.number;
+    if number != 0 {
+        return Checked { number, yes: false };
+    }
+    let yes = follow::is_reading(image, events, script);
+    Checked { number: 0, yes }
+}

@@ -1,0 +1,66 @@
+// The refusals of count and reading, each table the rows of the one before and more.
+ghost use mathlib.Core.Path.{_≡_};
+ghost use Prim.Native.Nat.{ℕ, _<_};
+ghost use Rattle.derivation.specs.Tree.{scriptWords};
+ghost use Rattle.image.specs.Refusal.{First};
+ghost use Rattle.table.specs.Table.{held};
+ghost use Rattle.readings.specs.Count.{countRows};
+ghost use Rattle.readings.specs.Reading.{lentRows, numberRows};
+
+// Refusals 1 to 8 and 10, or 0.
+pub fn count_refusal(image: &[u8], n: usize, size: usize) -> u8
+    ensures { λ r. ⌜ First (countRows (now (image .entry)) n size) r ⌝ }
+{
+    let tested = image::test_record(image, n);
+    let early = tested.number;
+    if early != 0 {
+        return early;
+    }
+    let need = table::words_needed(tested.symbols, n);
+    if size < need {
+        return 10;
+    }
+    0
+}
+
+// How many words the room needs.
+fn script_words(n: usize) -> usize
+    requires { ⌜ n < 65536 ⌝ }
+    ensures { λ r. ⌜ r ≡ scriptWords n ⌝ }
+{
+    if n == 0 {
+        return 0;
+    }
+    2 * (2 * n - 1)
+}
+
+// Refusals 1 to 8, 10 and 11, or 0.
+pub fn lent_refusal(image: &[u8], n: usize, size: usize, space: usize) -> u8
+    ensures { λ r. ⌜ First (lentRows (now (image .entry)) n size space) r ⌝ }
+{
+    let early = count_refusal(image, n, size);
+    if early != 0 {
+        return early;
+    }
+    let need = script_words(n);
+    if space < need {
+        return 11;
+    }
+    0
+}
+
+// Refusals 12 and 13, or 0, where total is the true number of readings held at the limit.
+pub fn number_refusal(k: u32, total: u32) -> u8
+    ensures { λ r. ⌜ ((m : ℕ) → total ≡ held m → First (numberRows k m) r) ⌝ }
+{
+    if k == table::LIMIT {
+        if total == table::LIMIT {
+            return 13;
+        }
+        return 12;
+    }
+    if k < total {
+        return 0;
+    }
+    12
+}
