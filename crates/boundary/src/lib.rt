@@ -1,7 +1,31 @@
-// The services as C functions, for Rust and C to link. A slice passes as a pointer and a length.
+// The services as C functions, for Rust and C to link. A slice passes as a pointer and a length; each answers its number, and the rest of
+// its answer through references. The contracts are those of the services.
+ghost use Rattle.layout.specs.Layout.{decode};
+ghost use Rattle.image.specs.Image.{imageRows, TestedIs};
 ghost use Rattle.chart.specs.Judge.{JudgeIs};
+ghost use Rattle.readings.specs.Count.{CountIs};
+ghost use Rattle.readings.specs.Reading.{ReadingIs};
+ghost use Rattle.readings.specs.Check.{CheckIs};
 
-// Judges a record; answers the number, and through the references the verdict, the items and the firings.
+// Tests a grammar image.
+#[no_mangle]
+pub extern "C" fn reader_test(
+    image: &[u8],
+    symbols: &mut usize,
+    leaves: &mut usize,
+    pairs: &mut usize,
+) -> u8
+    ensures { λ n. ⌜ TestedIs (imageRows (now (image .entry))) (decode (now (image .entry)))
+        (record { number = n; symbols = now (symbols .exit); leaves = now (leaves .exit); pairs = now (pairs .exit) }) ⌝ }
+{
+    let tested = image::test_image(image);
+    *symbols = tested.symbols;
+    *leaves = tested.leaves;
+    *pairs = tested.pairs;
+    tested.number
+}
+
+// Judges a record.
 #[no_mangle]
 pub extern "C" fn reader_judge(
     image: &[u8],
@@ -20,4 +44,46 @@ pub extern "C" fn reader_judge(
     *items = judged.items;
     *firings = judged.firings;
     judged.number
+}
+
+// Counts the readings of a record.
+#[no_mangle]
+pub extern "C" fn reader_count(
+    image: &[u8],
+    events: &[u16],
+    table: &mut [u32],
+    total: &mut u32,
+) -> u8
+    ensures { λ n. ⌜ CountIs (now (image .entry)) (now (events .entry)) (now (table .entry))
+        (record { number = n; total = now (total .exit) }) (now (table .exit)) ⌝ }
+{
+    let counted = readings::count(image, events, table);
+    *total = counted.total;
+    counted.number
+}
+
+// Gives reading number k as a script.
+#[no_mangle]
+pub extern "C" fn reader_reading(
+    image: &[u8],
+    events: &[u16],
+    k: u32,
+    table: &mut [u32],
+    room: &mut [u16],
+) -> u8
+    ensures { λ n. ⌜ ReadingIs (now (image .entry)) (now (events .entry)) k (now (table .entry)) (now (room .entry))
+        (record { number = n }) (now (table .exit)) (now (room .exit)) ⌝ }
+{
+    let read = readings::reading(image, events, k, table, room);
+    read.number
+}
+
+// Checks a script.
+#[no_mangle]
+pub extern "C" fn reader_check(image: &[u8], events: &[u16], script: &[u16], yes: &mut bool) -> u8
+    ensures { λ n. ⌜ CheckIs (now (image .entry)) (now (events .entry)) (now (script .entry)) (record { number = n; yes = now (yes .exit) }) ⌝ }
+{
+    let checked = readings::check(image, events, script);
+    *yes = checked.yes;
+    checked.number
 }
