@@ -1,9 +1,11 @@
 //! Random small cases, most of them with a damaged image: both sides must agree in every answer and
 //! in every word of the lent memory and of the memory around it.
 
-use crate::cases::{image, need};
+use crate::answers::Judged;
+use crate::grammars::image;
 use crate::random::Random;
-use crate::{Judged, SIDES};
+use crate::services::judge::SIDES;
+use crate::sizes::cells as need;
 
 /// Events that differ in the low byte only, in the high byte only, and in both, so that the order
 /// of the bytes counts.

@@ -1,0 +1,65 @@
+//! Grammars all of whose symbols are alike, so that numbers of derivations are known without a
+//! table: they are Catalan numbers times a power.
+
+use crate::sizes::{script_words, LIMIT};
+
+/// Every symbol turns into every event of the record by one rule, and has the same number of pair
+/// rules, over any symbols.
+#[derive(Clone, Copy)]
+pub struct Alike {
+    pub event_rules: u16,
+    /// The pair rules of a symbol.
+    pub pair_rules: u16,
+}
+
+/// The grammar CHAIN.
+pub const CHAIN: Alike = Alike {
+    event_rules: 1,
+    pair_rules: 1,
+};
+
+/// The grammar of the record `full`.
+pub const FULL: Alike = Alike {
+    event_rules: 512,
+    pair_rules: 4,
+};
+
+/// The trees with so many leaves, of two parts at each other node: the Catalan number of one less.
+pub fn trees(leaves: usize) -> u128 {
+    (1..leaves as u128).fold(1, |c, m| c * (4 * m - 2) / (m + 1))
+}
+
+/// A count as it is reported.
+pub fn cut(count: u128) -> u64 {
+    count.min(LIMIT as u128) as u64
+}
+
+impl Alike {
+    /// The derivations of a symbol: trees with a pair rule at each node that isn't a leaf. Where
+    /// 128 bits don't hold them, the largest number stands for them.
+    pub fn ways(&self, events: usize) -> u128 {
+        let choices = (self.pair_rules as u128).saturating_pow(events as u32 - 1);
+        trees(events).saturating_mul(choices)
+    }
+
+    /// The number of a script over a stretch from place `i`: how many come before it.
+    pub fn number_of(&self, script: &[u16], i: usize) -> u128 {
+        let &[rule, split, ref parts @ ..] = script else {
+            panic!("a script has a node");
+        };
+        if parts.is_empty() {
+            return 0;
+        }
+        let (j, k) = (split as usize, i + script.len().div_ceil(4));
+        let with = |j: usize| self.ways(j - i).saturating_mul(self.ways(k - j));
+        let add = |sum: u128, j: usize| sum.saturating_add(with(j));
+        let of_a_rule = (i + 1..k).fold(0, add);
+        let rules = (rule - self.event_rules) % self.pair_rules;
+        let earlier = (i + 1..j).fold(of_a_rule.saturating_mul(rules as u128), add);
+        let (left, right) = parts.split_at(script_words(j - i));
+        let lefts = self.number_of(left, i).saturating_mul(self.ways(k - j));
+        earlier
+            .saturating_add(lefts)
+            .saturating_add(self.number_of(right, j))
+    }
+}

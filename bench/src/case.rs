@@ -1,0 +1,140 @@
+//! A call whose outcome is known, and the comparison of both sides in it.
+
+use crate::grammars::stop;
+use crate::records::{Input, Words};
+use std::fmt::Debug;
+
+/// Stands in every lent word before a call, as many bits of it as fit: no case gives such a word.
+const POISON: u64 = 0xDEAD_BEEF_DEAD_BEEF;
+
+/// How many words more than needed are lent.
+const SPARE: usize = 8;
+
+/// The memory that a caller lends.
+#[derive(PartialEq)]
+pub struct Lent {
+    pub chart: Vec<u64>,
+    pub table: Vec<u32>,
+    pub script: Vec<u16>,
+}
+
+impl Lent {
+    pub fn new(words: Words) -> Self {
+        Lent {
+            chart: vec![POISON; words.chart],
+            table: vec![POISON as u32; words.table],
+            script: vec![POISON as u16; words.script],
+        }
+    }
+
+    /// Whether these first words of each kind were written, and no others.
+    fn written(&self, words: Words) -> bool {
+        first_written(&self.chart, POISON, words.chart)
+            && first_written(&self.table, POISON as u32, words.table)
+            && first_written(&self.script, POISON as u16, words.script)
+    }
+}
+
+fn first_written<T: PartialEq>(lent: &[T], poison: T, count: usize) -> bool {
+    let (used, past) = lent.split_at(count);
+    !used.contains(&poison) && past.iter().all(|w| *w == poison)
+}
+
+pub struct Case<A> {
+    pub input: Input,
+    /// The words that are lent.
+    pub room: Words,
+    /// The words that the call writes.
+    written: Words,
+    told: A,
+    /// What else is known of the words after the call.
+    known: Box<dyn Fn(&Lent) -> bool>,
+}
+
+impl<A: From<u8>> Case<A> {
+    /// A call that gets more room than it needs.
+    pub fn new(input: Input, written: Words, told: A) -> Self {
+        let Words {
+            chart,
+            table,
+            script,
+        } = input.needs();
+        let room = Words {
+            chart: chart + SPARE,
+            table: table + SPARE,
+            script: script + SPARE,
+        };
+        Case {
+            input,
+            room,
+            written,
+            told,
+            known: Box::new(|_| true),
+        }
+    }
+
+    /// A call that is refused and writes nothing.
+    pub fn refused(input: Input, number: u8) -> Self {
+        Case::new(input, Words::default(), A::from(number))
+    }
+
+    pub fn with_room(self, room: Words) -> Self {
+        Case { room, ..self }
+    }
+
+    pub fn knowing(self, known: impl Fn(&Lent) -> bool + 'static) -> Self {
+        Case {
+            known: Box::new(known),
+            ..self
+        }
+    }
+}
+
+/// Both answers are what the case says, and so are the words, which are equal.
+pub fn verify<A, F>(sides: &[F; 2], case: &Case<A>)
+where
+    A: Debug + PartialEq,
+    F: Fn(&Input, &mut Lent) -> A,
+{
+    let name = case.input.name;
+    let [ours, plain] = sides.each_ref().map(|side| {
+        let mut lent = Lent::new(case.room);
+        let got = side(&case.input, &mut lent);
+        assert_eq!(got, case.told, "{name}: the answer");
+        assert!(lent.written(case.written), "{name}: what was written");
+        assert!((case.known)(&lent), "{name}: what the words tell");
+        lent
+    });
+    assert!(ours == plain, "{name}: the words");
+}
+
+/// Refusals 1 to 8, which every service gives: each image or record is at fault in what its number
+/// names. They come before the refusals for too little room, so they are given with and without it.
+pub fn at_fault<A: From<u8>>() -> Vec<Case<A>> {
+    let spoiled = |at: usize, byte: u8| {
+        let mut image = stop();
+        image[at] = byte;
+        image
+    };
+    let mut twice = stop();
+    twice.copy_within(10..13, 13);
+    let faults = [
+        (1, stop()[..9].to_vec(), 3),
+        (2, spoiled(2, b'X'), 3),
+        (3, spoiled(4, 1), 3),
+        (4, spoiled(5, 65), 3),
+        (5, [stop(), vec![0]].concat(), 3),
+        (6, spoiled(30, 6), 3),
+        (7, twice, 3),
+        (8, stop(), 65),
+    ];
+    let case = |(number, image, events)| {
+        let input = Input::new("refused", image, &vec![1; events]);
+        let ample = Case::refused(input.clone(), number);
+        [
+            ample,
+            Case::refused(input, number).with_room(Words::default()),
+        ]
+    };
+    faults.into_iter().flat_map(case).collect()
+}

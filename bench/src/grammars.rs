@@ -1,0 +1,92 @@
+//! Grammar images.
+
+use crate::random::Random;
+
+/// An image; each kind's rules are put in order here, and of equal ones one is kept.
+pub fn image(symbols: u8, leaves: &[(u8, u16)], pairs: &[[u8; 3]]) -> Vec<u8> {
+    let (mut leaves, mut pairs) = (leaves.to_vec(), pairs.to_vec());
+    leaves.sort();
+    leaves.dedup();
+    pairs.sort();
+    pairs.dedup();
+    let mut image = b"ESG\x01\x00".to_vec();
+    image.push(symbols);
+    image.extend((leaves.len() as u16).to_le_bytes());
+    image.extend((pairs.len() as u16).to_le_bytes());
+    for (symbol, event) in leaves {
+        image.push(symbol);
+        image.extend(event.to_le_bytes());
+    }
+    image.extend(pairs.concat());
+    image
+}
+
+/// The largest grammar: 64 symbols that each turn into events 0 to 7, and four pair rules for each.
+/// Over events 0 to 7 every cell is full; `left` says how the rules share left symbols.
+pub fn largest(left: fn(u32, u32) -> u32) -> Vec<u8> {
+    let leaves: Vec<_> = (0..512).map(|r| ((r / 8) as u8, r % 8)).collect();
+    let pair = |r: u32| {
+        let (s, t) = (r / 4, r % 4);
+        [
+            s as u8,
+            left(s, t) as u8,
+            ((11 * s + 29 * t + 5) % 64) as u8,
+        ]
+    };
+    let pairs: Vec<_> = (0..256).map(pair).collect();
+    image(64, &leaves, &pairs)
+}
+
+/// 256 pair rules drawn at random, and half of the largest number of event rules. Only half of the
+/// symbols have pair rules: where all have, the longer stretches get all symbols or none.
+pub fn any_half(random: &mut Random) -> Vec<u8> {
+    let mut leaves: Vec<_> = (0..512).map(|r| ((r / 8) as u8, r % 8)).collect();
+    while leaves.len() > 256 {
+        leaves.swap_remove(random.below(leaves.len()));
+    }
+    let mut pairs = Vec::new();
+    while pairs.len() < 256 {
+        let pair = [random.below(32), random.below(64), random.below(64)].map(|s| s as u8);
+        if !pairs.contains(&pair) {
+            pairs.push(pair);
+        }
+    }
+    image(64, &leaves, &pairs)
+}
+
+/// Sixteen pairs of symbols from 32 on say whether a count over the stretch is even or odd: one of
+/// a pair stands in every cell, and which one is as good as random. Symbols 0 to 31 stand in every
+/// cell; their rules come in twos, one for each symbol of such a pair, and one of the two fires. So
+/// of the rules with one left symbol half fire, and a shortcut for all or none never applies.
+pub fn mixed(random: &mut Random) -> Vec<u8> {
+    let parity = |u: usize, odd: usize| (32 + 2 * (u % 16) + odd) as u8;
+    let (mut leaves, mut pairs) = (Vec::new(), Vec::new());
+    for event in 0..8 {
+        leaves.extend((0..32).map(|symbol| (symbol, event)));
+        leaves.extend((0..16).map(|u| (parity(u, random.below(2)), event)));
+    }
+    for (u, a, b) in (0..64).map(|r| (r / 4, r / 2 % 2, r % 2)) {
+        pairs.push([parity(u, a ^ b), parity(u, a), parity(u, b)]);
+    }
+    for (s, t, odd) in (0..192).map(|r| (r / 6, r / 2 % 3, r % 2)) {
+        let left = (5 * s + 11 * t) % 32;
+        pairs.push([s as u8, left as u8, parity(3 * s + 5 * t, odd)]);
+    }
+    image(64, &leaves, &pairs)
+}
+
+pub fn chain() -> Vec<u8> {
+    image(1, &[(0, 7)], &[[0, 0, 0]])
+}
+
+/// The start turns into CHAIN over event 7 and then CHAIN over event 8.
+pub fn two_chains() -> Vec<u8> {
+    image(3, &[(1, 7), (2, 8)], &[[0, 1, 2], [1, 1, 1], [2, 2, 2]])
+}
+
+/// Symbols: 0 day, 1 stop, 2 press, 3 tail, 4 relay, 5 reset.
+pub fn stop() -> Vec<u8> {
+    let leaves = [(2, 1), (4, 2), (5, 3)];
+    let pairs = [[0, 1, 0], [0, 2, 3], [1, 2, 3], [3, 4, 5]];
+    image(6, &leaves, &pairs)
+}

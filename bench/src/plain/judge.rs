@@ -1,0 +1,94 @@
+//! `judge`: a loop over all pair rules at each split.
+
+use super::{cell, low_first, test, Grammar};
+use crate::answers::Judged;
+use crate::sizes::cells;
+
+/// The pair rules, a column for each part, every symbol as the word of its one bit: of the plain
+/// forms tried on aarch64 (records or columns, numbers of 8, 32 or 64 bits or such words, with and
+/// without a branch) this one gives the fastest loop, which the compiler turns into vector code.
+struct Pairs {
+    symbol: Vec<u64>,
+    left: Vec<u64>,
+    right: Vec<u64>,
+}
+
+/// A cell's word and the matches so far.
+struct Fired {
+    word: u64,
+    count: u64,
+}
+
+/// Refusals 1 to 9, or the chart, the verdict, the items and the firings.
+pub fn judge(image: &[u8], events: &[u16], chart: &mut [u64]) -> Judged {
+    let grammar = match test(image, events) {
+        Ok(grammar) => grammar,
+        Err(number) => return Judged::from(number),
+    };
+    let n = events.len();
+    if chart.len() < cells(n) {
+        return Judged::from(9);
+    }
+    let firings = fill(&grammar, events, chart);
+    let used = &chart[..cells(n)];
+    Judged {
+        number: 0,
+        admitted: n > 0 && chart[cell(0, n)] & 1 == 1,
+        items: used.iter().map(|w| w.count_ones() as u64).sum(),
+        firings,
+    }
+}
+
+fn decode(pairs: &[u8]) -> Pairs {
+    let part = |at| pairs.iter().skip(at).step_by(3).map(|&s| 1 << s);
+    Pairs {
+        symbol: part(0).collect(),
+        left: part(1).collect(),
+        right: part(2).collect(),
+    }
+}
+
+/// Fills the chart column by column, each from its last cell down, and counts the firings.
+fn fill(grammar: &Grammar, events: &[u16], chart: &mut [u64]) -> u64 {
+    let pairs = decode(grammar.pairs);
+    let mut firings = 0;
+    for (q, &event) in events.iter().enumerate() {
+        let leaf = fire_leaves(grammar.leaves, event);
+        chart[cell(q, q + 1)] = leaf.word;
+        firings += leaf.count;
+        for i in (0..q).rev() {
+            let f = fill_cell(&pairs, chart, i, q + 1);
+            chart[cell(i, q + 1)] = f.word;
+            firings += f.count;
+        }
+    }
+    firings
+}
+
+fn fire_leaves(leaves: &[u8], event: u16) -> Fired {
+    let mut f = Fired { word: 0, count: 0 };
+    for r in leaves.chunks_exact(3) {
+        let h = (low_first(r, 1) == event) as u64;
+        f.word |= h << r[0];
+        f.count += h;
+    }
+    f
+}
+
+fn fill_cell(pairs: &Pairs, chart: &[u64], i: usize, k: usize) -> Fired {
+    let mut f = Fired { word: 0, count: 0 };
+    for j in i + 1..k {
+        fire_pairs(pairs, chart[cell(i, j)], chart[cell(j, k)], &mut f);
+    }
+    f
+}
+
+/// All pair rules over two cells. `&` and the product leave no branch, which would keep the
+/// compiler from vector code.
+fn fire_pairs(pairs: &Pairs, left: u64, right: u64, f: &mut Fired) {
+    for ((s, l), r) in pairs.symbol.iter().zip(&pairs.left).zip(&pairs.right) {
+        let h = ((left & l != 0) & (right & r != 0)) as u64;
+        f.word |= h * s;
+        f.count += h;
+    }
+}

@@ -1,0 +1,116 @@
+//! `reading`. A script is told word for word, or by its number, which is worked out from the script
+//! with Catalan numbers.
+
+use super::compare_and_time;
+use crate::alike::{Alike, CHAIN, FULL};
+use crate::case::{at_fault, Case, Lent};
+use crate::records::{self, Input, Words};
+use crate::{ours, plain};
+
+type Reading = fn(&[u8], &[u16], u32, &mut [u32], &mut [u16]) -> u8;
+
+const SIDES: [Reading; 2] = [ours::reading, plain::reading];
+
+pub fn run(rounds: usize) {
+    let side = |reading: Reading| {
+        move |i: &Input, lent: &mut Lent| {
+            reading(&i.image, &i.events, i.k, &mut lent.table, &mut lent.script)
+        }
+    };
+    compare_and_time(SIDES.map(side), timed(), others(), rounds);
+}
+
+/// Half of the greatest number that a total is reported as.
+pub const MIDDLE: u32 = u32::MAX / 2;
+
+fn timed() -> Vec<Case<u8>> {
+    vec![
+        numbered(records::full(), MIDDLE, FULL),
+        numbered(records::sevens("CHAIN, 64 sevens", 64), MIDDLE, CHAIN),
+        written(records::stops(), 0, &STOPS),
+    ]
+}
+
+/// The one reading of the record `stops`.
+const STOPS: [u16; 22] = [
+    3, 3, 5, 1, 0, 1, 6, 2, 1, 2, 2, 3, 4, 4, 0, 4, 6, 5, 1, 5, 2, 6,
+];
+
+/// Other rows of the specification, and refusals.
+fn others() -> Vec<Case<u8>> {
+    let sevens = |count| records::sevens("a row for CHAIN", count);
+    let mut one_stop = records::stops();
+    one_stop.events.truncate(3);
+    let mut cases = at_fault();
+    cases.extend([
+        written(sevens(1), 0, &[0, 1]),
+        written(sevens(3), 0, &[1, 1, 0, 1, 1, 2, 0, 2, 0, 3]),
+        written(sevens(3), 1, &[1, 2, 1, 1, 0, 1, 0, 2, 0, 3]),
+        written(one_stop, 0, &[4, 1, 0, 1, 6, 2, 1, 2, 2, 3]),
+        numbered(sevens(20), 1_767_263_189, CHAIN),
+        numbered(sevens(21), u32::MAX - 1, CHAIN),
+        past(sevens(0), 0, 12),
+        past(sevens(3), 2, 12),
+        past(sevens(20), 1_767_263_190, 12),
+        past(sevens(20), u32::MAX, 12),
+        past(sevens(21), u32::MAX, 13),
+    ]);
+    cases.extend(short_of_room());
+    cases
+}
+
+/// A reading whose script is known.
+fn written(input: Input, k: u32, script: &'static [u16]) -> Case<u8> {
+    let words = script.len();
+    answered(input, k).knowing(move |lent| lent.script[..words] == *script)
+}
+
+/// A reading in a grammar that gives a script's number.
+fn numbered(input: Input, k: u32, grammar: Alike) -> Case<u8> {
+    let (Words { script, .. }, read) = (input.needs(), input.clone());
+    answered(input, k).knowing(move |lent| {
+        let script = &lent.script[..script];
+        let valid = plain::check(&read.image, &read.events, script).yes;
+        valid && grammar.number_of(script, 0) == k as u128
+    })
+}
+
+fn answered(input: Input, k: u32) -> Case<u8> {
+    let written = Words {
+        chart: 0,
+        ..input.needs()
+    };
+    Case::new(Input { k, ..input }, written, 0)
+}
+
+/// A number that no reading has: the table is filled all the same.
+fn past(input: Input, k: u32, number: u8) -> Case<u8> {
+    let written = Words {
+        table: input.needs().table,
+        ..Words::default()
+    };
+    Case::new(Input { k, ..input }, written, number)
+}
+
+/// Too little room is found before a number that no reading has, the table's before the script's.
+fn short_of_room() -> [Case<u8>; 2] {
+    let short = |table_less, number| {
+        let k = 1;
+        let input = Input {
+            k,
+            ..records::stops()
+        };
+        let Words {
+            chart,
+            table,
+            script,
+        } = input.needs();
+        let room = Words {
+            chart,
+            table: table - table_less,
+            script: script - 1,
+        };
+        Case::refused(input, number).with_room(room)
+    };
+    [short(1, 10), short(0, 11)]
+}

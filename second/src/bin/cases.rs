@@ -1,0 +1,225 @@
+//! cases FOLDER: writes grammar files and event files for the listing program, the same in every
+//! run, and a line for each call: a name, and the call's arguments, parted by tabs.
+
+use second::derive::cells;
+use second::examples::{binary, chain, digits, image, stop};
+use second::random::Random;
+use std::path::PathBuf;
+use std::{env, fs, io};
+
+/// The words of the program's count buffer.
+const COUNT_BUFFER: usize = 16_384;
+
+/// A pair of files is named by a count, so that each pair has its own.
+struct Cases {
+    folder: PathBuf,
+    written: usize,
+}
+
+impl Cases {
+    /// The path of a file in the folder.
+    fn path(&self, name: &str) -> String {
+        self.folder.join(name).display().to_string()
+    }
+
+    fn write(&self, name: &str, bytes: &[u8]) -> io::Result<String> {
+        let path = self.path(name);
+        fs::write(&path, bytes)?;
+        Ok(path)
+    }
+
+    fn pair(&mut self, name: &str, grammar: &[u8], events: &[u8]) -> io::Result<()> {
+        self.written += 1;
+        let grammar = self.write(&format!("{}.grammar", self.written), grammar)?;
+        let events = self.write(&format!("{}.events", self.written), events)?;
+        println!("{name}\t{grammar}\t{events}");
+        Ok(())
+    }
+
+    fn record(&mut self, name: &str, grammar: &[u8], events: &[u16]) -> io::Result<()> {
+        let bytes: Vec<u8> = events.iter().flat_map(|e| e.to_le_bytes()).collect();
+        self.pair(name, grammar, &bytes)
+    }
+}
+
+fn main() -> io::Result<()> {
+    let folder = env::args_os().nth(1).expect("the argument is a folder");
+    let mut cases = Cases {
+        folder: folder.into(),
+        written: 0,
+    };
+    examples(&mut cases)?;
+    totals(&mut cases)?;
+    refused_images(&mut cases)?;
+    event_files(&mut cases)?;
+    count_buffer(&mut cases)?;
+    large(&mut cases)?;
+    absent(&cases)?;
+    let mut random = Random::new(1);
+    for at in 0..60 {
+        any(&mut cases, &mut random, at)?;
+    }
+    Ok(())
+}
+
+/// The rows of the specification.
+fn examples(cases: &mut Cases) -> io::Result<()> {
+    for n in [0, 1, 2, 3, 4, 5, 7, 9, 20, 21, 63, 64, 65, 66] {
+        cases.record(&format!("CHAIN, {n} events"), &chain(), &vec![7; n])?;
+    }
+    cases.record("CHAIN, 7 8", &chain(), &[7, 8])?;
+    cases.record("CHAIN, the bytes of 7 swapped", &chain(), &[7 << 8])?;
+    for n in [0, 1, 2, 3, 4, 6, 63, 64] {
+        let events: Vec<u16> = (0..n).map(|place| 1 + place % 3).collect();
+        cases.record(&format!("STOP, {n} events"), &stop(), &events)?;
+    }
+    cases.record("STOP, 1 2 3 3 2 1", &stop(), &[1, 2, 3, 3, 2, 1])
+}
+
+/// Around a hundred scripts and around the cap.
+fn totals(cases: &mut Cases) -> io::Result<()> {
+    for total in [0, 1, 2, 9, 10, 11, 99, 100, 101, 999, 2_000, 2_001] {
+        cases.record(&format!("total {total}"), &binary(), &digits(total))?;
+    }
+    for total in (1 << 32) - 4..(1 << 32) + 3 {
+        cases.record(&format!("total {total}"), &binary(), &digits(total))?;
+    }
+    cases.record("total of 64 bits", &binary(), &digits(u64::MAX))?;
+    cases.record("zeros only", &binary(), &[0; 64])
+}
+
+/// STOP with one byte changed.
+fn spoiled(place: usize, byte: u8) -> Vec<u8> {
+    let mut image = stop();
+    image[place] = byte;
+    image
+}
+
+/// Each with a good event file, and with one that would be refused itself.
+fn refused_images(cases: &mut Cases) -> io::Result<()> {
+    let mut repeated = stop();
+    repeated.copy_within(10..13, 13);
+    let mut swapped = stop();
+    swapped[19..25].rotate_left(3);
+    let images = [
+        vec![],
+        stop()[..9].to_vec(),
+        spoiled(0, b'e'),
+        spoiled(3, 2),
+        spoiled(4, 1),
+        spoiled(5, 0),
+        spoiled(5, 65),
+        spoiled(7, 3),
+        spoiled(9, 2),
+        stop()[..30].to_vec(),
+        [stop(), vec![0]].concat(),
+        [stop(), vec![0; 65_536]].concat(),
+        [b"esg".to_vec(), vec![0; 1_000_000]].concat(),
+        [stop(), vec![0; 1_000_000]].concat(),
+        spoiled(10, 6),
+        spoiled(30, 6),
+        spoiled(19, 255),
+        repeated,
+        swapped,
+        spoiled(10, 5),
+    ];
+    for (at, image) in images.iter().enumerate() {
+        cases.pair(&format!("refused image {at}"), image, &[1, 0])?;
+        cases.pair(&format!("refused image {at}, odd"), image, &[0; 127])?;
+        cases.pair(&format!("refused image {at}, long"), image, &[0; 129])?;
+    }
+    Ok(())
+}
+
+fn event_files(cases: &mut Cases) -> io::Result<()> {
+    let wide = image(64, &[], &[]);
+    let lengths = [
+        1, 2, 3, 43, 44, 45, 46, 127, 128, 129, 130, 131, 255, 256, 257, 65_536, 65_539, 1_000_000,
+    ];
+    for length in lengths {
+        let bytes: Vec<u8> = (0..length).map(|place| [7, 0][place % 2]).collect();
+        cases.pair(&format!("CHAIN, {length} bytes"), &chain(), &bytes)?;
+        cases.pair(&format!("64 symbols, {length} bytes"), &wide, &bytes)?;
+    }
+    Ok(())
+}
+
+/// The longest record that the count buffer holds and the next one, if there may be one.
+fn count_buffer(cases: &mut Cases) -> io::Result<()> {
+    for symbols in [7_u8, 8, 9, 10, 13, 16, 20, 21, 32, 44, 63, 64] {
+        let image = image(symbols, &[(0, 7)], &[(0, 0, 0)]);
+        let fits = |n: &usize| symbols as usize * cells(*n) <= COUNT_BUFFER;
+        let last = (0..=64).filter(fits).max().expect("an empty record fits");
+        for n in last..=(last + 1).min(64) {
+            cases.record(
+                &format!("{symbols} symbols, {n} events"),
+                &image,
+                &vec![7; n],
+            )?;
+        }
+    }
+    Ok(())
+}
+
+/// As many rules as there may be, so that rule numbers have three digits, and none.
+fn large(cases: &mut Cases) -> io::Result<()> {
+    let event_rules: Vec<_> = (0..512).map(|r| ((r / 8) as u8, r % 8)).collect();
+    let pair_rules: Vec<_> = (0..=255).map(|r| (r / 4, r % 64, r / 8 + 7)).collect();
+    let largest = image(64, &event_rules, &pair_rules);
+    for n in [0, 1, 2, 3, 22] {
+        let events: Vec<u16> = (0..n).map(|place| place % 8).collect();
+        cases.record(&format!("largest, {n} events"), &largest, &events)?;
+    }
+    cases.record("no rules", &image(1, &[], &[]), &[7; 3])?;
+    cases.record("no event rules", &image(1, &[], &[(0, 0, 0)]), &[7; 3])?;
+    cases.record("no pair rules", &image(1, &[(0, 7)], &[]), &[7])
+}
+
+/// Files and arguments that are not there, and one too many.
+fn absent(cases: &Cases) -> io::Result<()> {
+    let (grammar, events) = (
+        cases.write("grammar", &chain())?,
+        cases.write("events", &[7, 0])?,
+    );
+    let (bad, none, folder) = (
+        cases.write("bad", b"bad")?,
+        cases.path("none"),
+        cases.path("folder"),
+    );
+    fs::create_dir(&folder)?;
+    println!("no arguments");
+    println!("one argument\t{grammar}");
+    println!("one argument, bad\t{bad}");
+    println!("no grammar\t{none}\t{events}");
+    println!("no events\t{grammar}\t{none}");
+    println!("no events, bad grammar\t{bad}\t{none}");
+    println!("neither\t{none}\t{none}");
+    println!("grammar a folder\t{folder}\t{events}");
+    println!("events a folder\t{grammar}\t{folder}");
+    println!("events a folder, bad grammar\t{bad}\t{folder}");
+    println!("bad grammar\t{bad}\t{events}");
+    println!("the same file\t{grammar}\t{grammar}");
+    println!("three arguments\t{grammar}\t{events}\t{none}");
+    Ok(())
+}
+
+/// A random grammar of few symbols, sometimes with one byte changed, and a random record.
+fn any(cases: &mut Cases, random: &mut Random, at: usize) -> io::Result<()> {
+    let symbols = random.within(1, 4);
+    let kinds = random.within(1, 3);
+    let symbol = |random: &mut Random| random.below(symbols) as u8;
+    let event_rules: Vec<_> = (0..random.within(1, 9))
+        .map(|_| (symbol(random), random.below(kinds) as u16))
+        .collect();
+    let pair_rules: Vec<_> = (0..random.within(1, 20))
+        .map(|_| (symbol(random), symbol(random), symbol(random)))
+        .collect();
+    let mut image = image(symbols as u8, &event_rules, &pair_rules);
+    if random.once_in(4) {
+        let place = random.below(image.len());
+        image[place] ^= 1 << random.below(8);
+    }
+    let n = random.within(1, 10);
+    let events: Vec<_> = (0..n).map(|_| random.below(kinds) as u16).collect();
+    cases.record(&format!("random {at}"), &image, &events)
+}

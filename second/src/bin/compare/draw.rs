@@ -1,0 +1,251 @@
+//! Random images, all of them accepted or just too large, and records that meet their rules.
+
+use second::examples::{binary, chain, digits, image, stop};
+use second::image::decode;
+use second::random::Random;
+use std::collections::BTreeSet;
+
+/// An image and a record.
+type Drawn = (Vec<u8>, Vec<u16>);
+
+/// A name, how many of a thousand cases are of this kind, and how one is drawn.
+type Kind = (&'static str, usize, fn(&mut Random) -> Drawn);
+
+pub const KINDS: [Kind; 10] = [
+    ("chain", 40, chain_case),
+    ("stop", 30, stop_case),
+    ("binary", 100, binary_case),
+    ("product", 50, product_case),
+    ("dense", 330, dense_case),
+    ("sparse", 330, sparse_case),
+    ("wide", 86, wide_case),
+    ("limits", 20, limits_case),
+    ("long", 13, long_case),
+    ("largest", 1, largest_case),
+];
+
+/// Events that differ in the low byte only, in the high byte only, and in both.
+const EVENTS: [u16; 10] = [0, 1, 7, 255, 256, 257, 1_792, 0x8000, 0xFF00, 0xFFFF];
+
+/// A kind in proportion to its number.
+pub fn any_kind(random: &mut Random) -> Kind {
+    let mut place = random.below(1_000);
+    for kind in KINDS {
+        if place < kind.1 {
+            return kind;
+        }
+        place -= kind.1;
+    }
+    panic!("the numbers of the kinds are short of a thousand");
+}
+
+fn chain_case(random: &mut Random) -> Drawn {
+    let n = match random.below(8) {
+        0..=3 => random.below(13),
+        4 | 5 => random.within(18, 24),
+        6 => random.within(60, 70),
+        // Refused too, though few events are left if only 8 or 16 bits of the length are looked at.
+        _ => random.one_of(&[256, 259, 320, 65_536, 65_539]),
+    };
+    (chain(), spoiled(random, vec![7; n], 4))
+}
+
+/// Stops one after the other, the last perhaps not whole.
+fn stop_case(random: &mut Random) -> Drawn {
+    let most = random.one_of(&[9, 9, 30, 70]);
+    let n = random.below(most + 1);
+    let events = (0..n).map(|place| 1 + (place % 3) as u16).collect();
+    (stop(), spoiled(random, events, 4))
+}
+
+/// Totals around the largest that is told exactly, and any others.
+fn binary_case(random: &mut Random) -> Drawn {
+    let total = match random.below(4) {
+        0 | 1 => 4_294_967_292 + random.below(7) as u64,
+        2 => random.within(1_990, 2_010) as u64,
+        _ => random.word() >> random.below(64),
+    };
+    let zeros = vec![0; random.one_of(&[0, 0, 0, 1, 5])];
+    let events = [zeros, digits(total)].concat();
+    let most = events.len().min(64);
+    (binary(), events[..most].to_vec())
+}
+
+/// BINARY twice, one after the other: sums of products, also of zero and very many.
+fn product_case(random: &mut Random) -> Drawn {
+    let once = decode(&binary()).expect("an accepted image");
+    let event_rules = once.event_rules.iter();
+    let event_rules: Vec<_> = event_rules.map(|r| (1 + r.symbol as u8, r.event)).collect();
+    let pair_rules = once.pair_rules.iter();
+    let pair_rules = pair_rules.map(|r| [r.symbol, r.left, r.right].map(|a| 1 + a as u8));
+    let mut pair_rules: Vec<_> = pair_rules.map(|[a, b, c]| (a, b, c)).collect();
+    pair_rules.push((0, 1, 1));
+    let image = image(6, &event_rules, &pair_rules);
+    let most = random.one_of(&[6, 20, 40, 50]);
+    let (zeros, n) = (random.below(most + 1), random.below(most + 1));
+    // Zeros at one end, so that one factor is zero where the other is largest.
+    let mut events = vec![0; zeros.min(n)];
+    events.resize_with(n, || random.below(2) as u16);
+    if random.once_in(2) {
+        events.reverse();
+    }
+    (image, events)
+}
+
+/// Few symbols and events, and many of the possible rules: many readings.
+fn dense_case(random: &mut Random) -> Drawn {
+    let symbols = random.within(1, 4);
+    let kinds = any_events(random, 3);
+    let event_rules = random.within(1, symbols * kinds.len());
+    let pair_rules = random.within(1, (symbols * symbols * symbols).min(24));
+    let image = any_image(random, symbols, &kinds, event_rules, pair_rules);
+    let most = random.one_of(&[4, 8, 12, 20]);
+    let events = any_record(random, &image, &kinds, most);
+    (image, events)
+}
+
+/// Few rules for many symbols, and a record that they mostly derive.
+fn sparse_case(random: &mut Random) -> Drawn {
+    let symbols = random.within(1, 16);
+    let kinds = any_events(random, 10);
+    let (event_rules, pair_rules) = (random.below(25), random.below(33));
+    let image = any_image(random, symbols, &kinds, event_rules, pair_rules);
+    let most = random.one_of(&[4, 8, 16, 24]);
+    let events = any_record(random, &image, &kinds, most);
+    (image, events)
+}
+
+/// Any number of symbols and rules.
+fn wide_case(random: &mut Random) -> Drawn {
+    let symbols = random.within(1, 64);
+    let kinds = any_events(random, 10);
+    let (event_rules, pair_rules) = (random.below(513), random.below(257));
+    let image = any_image(random, symbols, &kinds, event_rules, pair_rules);
+    let most = random.one_of(&[2, 4, 8, 12]);
+    let events = any_record(random, &image, &kinds, most);
+    (image, events)
+}
+
+/// Few rules, and a record of about as many events as there may be.
+fn long_case(random: &mut Random) -> Drawn {
+    let symbols = random.within(1, 5);
+    let kinds = any_events(random, 3);
+    let image = any_image(random, symbols, &kinds, 8, 10);
+    let most = random.within(60, 70);
+    let events = any_record(random, &image, &kinds, most);
+    (image, events)
+}
+
+/// As many symbols and rules as there may be, one fewer or one more, and few events.
+fn limits_case(random: &mut Random) -> Drawn {
+    let symbols = random.one_of(&[63, 64, 64, 64, 65]);
+    let event_rules = random.one_of(&[511, 512, 512, 512, 513]);
+    let pair_rules = random.one_of(&[255, 256, 256, 256, 257]);
+    let n = random.below(6);
+    full_case(random, symbols, event_rules, pair_rules, n)
+}
+
+/// As much of everything as there may be.
+fn largest_case(random: &mut Random) -> Drawn {
+    full_case(random, 64, 512, 256, 64)
+}
+
+/// Exactly so many symbols, rules and events; all symbols turn into all events of the record but
+/// perhaps one.
+fn full_case(
+    random: &mut Random,
+    symbols: usize,
+    event_rules: usize,
+    pair_rules: usize,
+    n: usize,
+) -> Drawn {
+    let event_rules: Vec<_> = (0..event_rules)
+        .map(|r| ((r % symbols) as u8, EVENTS[r / symbols]))
+        .collect();
+    let mut pairs = BTreeSet::new();
+    while pairs.len() < pair_rules {
+        let symbol = (pairs.len() % symbols) as u8;
+        let [left, right] = [0; 2].map(|_| any_symbol(random, symbols));
+        pairs.insert((symbol, left, right));
+    }
+    let pair_rules: Vec<_> = pairs.into_iter().collect();
+    let image = image(symbols as u8, &event_rules, &pair_rules);
+    let events = (0..n).map(|_| random.one_of(&EVENTS[..7])).collect();
+    (image, spoiled(random, events, 4))
+}
+
+fn any_symbol(random: &mut Random, symbols: usize) -> u8 {
+    random.below(symbols) as u8
+}
+
+/// At most so many of the events.
+fn any_events(random: &mut Random, most: usize) -> Vec<u16> {
+    let mut kinds = EVENTS.to_vec();
+    kinds.rotate_left(random.below(EVENTS.len()));
+    kinds.truncate(random.within(1, most));
+    kinds
+}
+
+/// At most so many rules; of the same drawn twice one is kept. Other events are rare.
+fn any_image(
+    random: &mut Random,
+    symbols: usize,
+    kinds: &[u16],
+    event_rules: usize,
+    pair_rules: usize,
+) -> Vec<u8> {
+    let any_event = |random: &mut Random| match random.below(8) {
+        0 => random.word() as u16,
+        _ => random.one_of(kinds),
+    };
+    let event_rules: Vec<_> = (0..event_rules)
+        .map(|_| (any_symbol(random, symbols), any_event(random)))
+        .collect();
+    let pair_rules: Vec<_> = (0..pair_rules)
+        .map(|_| [0; 3].map(|_| any_symbol(random, symbols)))
+        .map(|[a, b, c]| (a, b, c))
+        .collect();
+    image(symbols as u8, &event_rules, &pair_rules)
+}
+
+/// A record of about at most so many events: mostly one that the rules derive, if chance finds it.
+fn any_record(random: &mut Random, image: &[u8], kinds: &[u16], most: usize) -> Vec<u16> {
+    let derived = (0..4).find_map(|_| derived(random, image, most));
+    match derived {
+        Some(events) if !random.once_in(8) => spoiled(random, events, 8),
+        _ => {
+            let n = random.below(most + 1);
+            (0..n).map(|_| random.one_of(kinds)).collect()
+        }
+    }
+}
+
+/// The events of a random derivation from symbol 0, unless it comes to a symbol without rules or
+/// to more than `most` events.
+fn derived(random: &mut Random, image: &[u8], most: usize) -> Option<Vec<u16>> {
+    let grammar = decode(image).ok()?;
+    let (mut open, mut events) = (vec![0], Vec::new());
+    while let Some(a) = open.pop() {
+        let leaves: Vec<_> = grammar.event_rules_of(a).map(|(_, r)| r.event).collect();
+        let pairs: Vec<_> = grammar.pair_rules_of(a).map(|(_, r)| *r).collect();
+        let room = events.len() + open.len() + 2 <= most;
+        if !pairs.is_empty() && room && (leaves.is_empty() || !random.once_in(6)) {
+            let pair = random.one_of(&pairs);
+            open.extend([pair.right, pair.left]);
+        } else if leaves.is_empty() {
+            return None;
+        } else {
+            events.push(random.one_of(&leaves));
+        }
+    }
+    Some(events)
+}
+
+/// Once in `count` times with one event changed.
+fn spoiled(random: &mut Random, mut events: Vec<u16>, count: usize) -> Vec<u16> {
+    if !events.is_empty() && random.once_in(count) {
+        let place = random.below(events.len());
+        events[place] = random.one_of(&EVENTS);
+    }
+    events
+}

@@ -1,0 +1,59 @@
+//! What must occur in many cases if they are what they are meant to be.
+
+use crate::damage::FAULTS;
+use crate::draw::KINDS;
+use crate::scripts::CHANGES;
+
+/// The numbers of each service.
+const NUMBERS: [(&str, &[u8]); 5] = [
+    ("test", &[0, 1, 2, 3, 4, 5, 6, 7]),
+    ("judge", &[0, 1, 2, 3, 4, 5, 6, 7, 8, 9]),
+    ("count", &[0, 1, 2, 3, 4, 5, 6, 7, 8, 10]),
+    ("reading", &[0, 1, 2, 3, 4, 5, 6, 7, 8, 10, 11, 12, 13]),
+    ("check", &[0, 1, 2, 3, 4, 5, 6, 7, 8]),
+];
+
+const ROOMS: [&str; 3] = ["chart", "table", "script room"];
+
+const FITS: [&str; 4] = ["one word short", "shorter", "exact", "longer"];
+
+const OTHERS: [&str; 21] = [
+    "judge: not admitted",
+    "judge: admitted",
+    "count: total 0",
+    "count: total between",
+    "count: total 4294967295",
+    "reading: k = 4294967294, number 0",
+    "reading: k = 4294967294, number 12",
+    "reading: k = 4294967295, number 12",
+    "reading: k = 4294967295, number 13",
+    "check: yes: a reading",
+    "check: yes: two readings spliced",
+    "check: yes: of another record",
+    "check: no: of another record",
+    "check: no: of another symbol",
+    "check: no: random words",
+    "true total: 4294967294",
+    "true total: 4294967295",
+    "true total: 4294967296",
+    "true total: above 64 bits",
+    "empty record",
+    "largest image and record",
+];
+
+/// Every line that the tally must have.
+pub fn expected() -> Vec<String> {
+    let mut all = Vec::new();
+    for (service, numbers) in NUMBERS {
+        all.extend(numbers.iter().map(|n| format!("{service}: number {n}")));
+    }
+    for room in ROOMS {
+        all.extend(FITS.map(|fit| format!("{room}: {fit}")));
+    }
+    all.extend(KINDS.map(|(name, ..)| format!("kind: {name}")));
+    all.extend(FAULTS.map(|(name, _)| format!("damage: {name}")));
+    let spoiled = CHANGES[1..].iter();
+    all.extend(spoiled.map(|(name, _)| format!("check: no: {name}")));
+    all.extend(OTHERS.map(str::to_string));
+    all
+}

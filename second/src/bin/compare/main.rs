@@ -1,0 +1,135 @@
+//! compare [--seed S] [--case I] [N]: the proved reader beside this one in N random cases, or in
+//! case I alone. A case is one image and one record through all five services. Both sides must
+//! agree in every answer and in every word, lent or not. Stops at the first difference.
+
+mod damage;
+mod draw;
+mod expected;
+mod lent;
+mod plan;
+mod scripts;
+mod setting;
+mod sides;
+mod tally;
+
+use damage::FAULTS;
+use plan::{Plan, Step};
+use second::random::Random;
+use setting::Call;
+use sides::{Answer, PROVED, SECOND};
+use std::process::ExitCode;
+use tally::Tally;
+
+/// In so many cases everything that is expected must occur.
+const ENOUGH: u64 = 20_000;
+
+struct Arguments {
+    seed: u64,
+    only: Option<u64>,
+    cases: u64,
+}
+
+fn arguments() -> Option<Arguments> {
+    let mut words = std::env::args().skip(1);
+    let mut arguments = Arguments {
+        seed: 1,
+        only: None,
+        cases: ENOUGH,
+    };
+    while let Some(word) = words.next() {
+        match &word[..] {
+            "--seed" => arguments.seed = words.next()?.parse().ok()?,
+            "--case" => arguments.only = Some(words.next()?.parse().ok()?),
+            _ => arguments.cases = word.parse().ok()?,
+        }
+    }
+    Some(arguments)
+}
+
+fn main() -> ExitCode {
+    let Some(Arguments { seed, only, cases }) = arguments() else {
+        eprintln!("arguments: [--seed S] [--case I] [N]");
+        return ExitCode::from(2);
+    };
+    println!("seed {seed}");
+    let numbers = only.map_or(0..cases, |case| case..case + 1);
+    let mut tally = Tally::default();
+    let mut passed = 0;
+    for case in numbers {
+        if let Err(difference) = compare(seed, case, &mut tally) {
+            println!("case {case}, to be repeated by --seed {seed} --case {case}: {difference}");
+            println!("compared {} cases: {passed} passed, 1 failed", passed + 1);
+            return ExitCode::FAILURE;
+        }
+        passed += 1;
+    }
+    tally.print();
+    let missing = match passed >= ENOUGH {
+        true => tally.missing(&expected::expected()),
+        false => Vec::new(),
+    };
+    for what in &missing {
+        println!("never occurred: {what}");
+    }
+    let failed = missing.len();
+    println!("compared {passed} cases: {passed} passed, {failed} failed");
+    ExitCode::from(u8::from(failed > 0))
+}
+
+/// One case. It depends on nothing but the seed and its own number.
+fn compare(seed: u64, case: u64, tally: &mut Tally) -> Result<(), String> {
+    let mut random = Random::new(Random::new(seed).word() ^ case);
+    let (name, _, draw) = draw::any_kind(&mut random);
+    tally.add(format!("kind: {name}"));
+    let (mut image, events) = draw(&mut random);
+    for _ in 0..random.one_of(&[0, 0, 0, 0, 0, 0, 1, 1, 2, 3]) {
+        let (name, fault) = random.one_of(&FAULTS);
+        tally.add(format!("damage: {name}"));
+        fault(&mut random, &mut image);
+    }
+    for step in Plan::new(&mut random, tally, &image, &events).steps() {
+        let answer = compare_step(&step)?;
+        note(tally, &step, answer);
+    }
+    Ok(())
+}
+
+/// The answer of both, or what they don't agree in.
+fn compare_step(step: &Step) -> Result<Answer, String> {
+    let (mut proved, mut second) = (step.setting.clone(), step.setting.clone());
+    let answers = [proved.answer(&PROVED), second.answer(&SECOND)];
+    if answers[0] == answers[1] && proved == second {
+        return Ok(answers[1]);
+    }
+    let word = proved.difference(&second).unwrap_or("none".to_string());
+    Err(format!(
+        "{}\nthe proved answer: {:?}\nthe second answer: {:?}\nfirst different word: {word}",
+        step.setting.describe(),
+        answers[0],
+        answers[1],
+    ))
+}
+
+fn note(tally: &mut Tally, step: &Step, Answer { number, rest }: Answer) {
+    let service = step.setting.service();
+    tally.add(format!("{service}: number {number}"));
+    match step.setting.call {
+        Call::Reading { k, .. } if k >= 4_294_967_294 && [0, 12, 13].contains(&number) => {
+            tally.add(format!("reading: k = {k}, number {number}"));
+        }
+        Call::Judge { .. } if number == 0 => {
+            let verdict = ["not admitted", "admitted"][rest[0] as usize];
+            tally.add(format!("judge: {verdict}"));
+        }
+        Call::Count { .. } if number == 0 => tally.add(match rest[0] {
+            0 => "count: total 0",
+            4_294_967_295 => "count: total 4294967295",
+            _ => "count: total between",
+        }),
+        Call::Check { .. } if number == 0 => {
+            let verdict = ["no", "yes"][rest[0] as usize];
+            tally.add(format!("check: {verdict}: {}", step.note));
+        }
+        _ => (),
+    }
+}

@@ -1,0 +1,183 @@
+//! Which calls are made with an image and a record: rooms, numbers of readings, scripts.
+
+use crate::lent::{Lent, Word};
+use crate::scripts::{another_record, any_reading, of_another_symbol, random_words, CHANGES};
+use crate::setting::{Call, Setting};
+use crate::tally::Tally;
+use second::derive::cells;
+use second::image::{decode, Grammar};
+use second::random::Random;
+use second::readings::{cut, Readings};
+use second::trees::script_words;
+
+/// A call, and what is said of it in the tally beside its answer.
+pub struct Step {
+    pub setting: Setting,
+    pub note: &'static str,
+}
+
+/// What calls are drawn from.
+pub struct Plan<'a> {
+    random: &'a mut Random,
+    tally: &'a mut Tally,
+    image: &'a [u8],
+    events: &'a [u16],
+    /// The number of events that rooms are measured by: not the true one where it is refused, or
+    /// rooms would be very long.
+    n: usize,
+    /// The words of a count table, as far as that can be told of a refused image.
+    table: usize,
+}
+
+impl<'a> Plan<'a> {
+    pub fn new(
+        random: &'a mut Random,
+        tally: &'a mut Tally,
+        image: &'a [u8],
+        events: &'a [u16],
+    ) -> Self {
+        let n = events.len().min(70);
+        let symbols = image.get(5).map_or(1, |&n| n.clamp(1, 64) as usize);
+        Plan {
+            random,
+            tally,
+            image,
+            events,
+            n,
+            table: symbols * cells(n),
+        }
+    }
+
+    /// Every service at least once.
+    pub fn steps(&mut self) -> Vec<Step> {
+        let chart = self.room("chart", cells(self.n));
+        let table = self.room("table", self.table);
+        let mut steps = vec![
+            self.step(Call::Test),
+            self.step(Call::Judge { chart }),
+            self.step(Call::Count { table }),
+        ];
+        match decode(self.image) {
+            Ok(grammar) if self.events.len() <= 64 => steps.extend(self.answered(&grammar)),
+            _ => {
+                let k = self.random.one_of(&[0, u32::MAX]);
+                steps.push(self.reading(k));
+                steps.push(self.random_words());
+            }
+        }
+        steps
+    }
+
+    /// Readings and checks of an image and a record that are not refused.
+    fn answered(&mut self, grammar: &Grammar) -> Vec<Step> {
+        let readings = Readings::of(grammar, self.events);
+        self.note_sizes(grammar, readings.total());
+        let mut steps = Vec::new();
+        let slow = grammar.pair_rules.len() * self.n.pow(3) > 2_000_000;
+        for _ in 0..if slow { 1 } else { 3 } {
+            let k = self.any_k(cut(readings.total()));
+            steps.push(self.reading(k));
+        }
+        for _ in 0..4 {
+            let check = self.any_check(grammar, &readings);
+            steps.push(check.unwrap_or_else(|| self.random_words()));
+        }
+        steps
+    }
+
+    fn step(&mut self, call: Call) -> Step {
+        let setting = Setting {
+            image: Lent::holding(self.random, self.image),
+            events: Lent::holding(self.random, self.events),
+            call,
+        };
+        Step { setting, note: "" }
+    }
+
+    /// Mostly just enough or a little more, sometimes one word short or much too short.
+    fn room<T: Word>(&mut self, what: &str, need: usize) -> Lent<T> {
+        let len = match self.random.below(12) {
+            0 => need.saturating_sub(1),
+            1 => self.random.below(need + 1),
+            2..=5 => need + self.random.within(1, 5),
+            _ => need,
+        };
+        let fit = match len {
+            _ if len == need => "exact",
+            _ if len > need => "longer",
+            _ if len + 1 == need => "one word short",
+            _ => "shorter",
+        };
+        self.tally.add(format!("{what}: {fit}"));
+        Lent::room(self.random, len)
+    }
+
+    fn reading(&mut self, k: u32) -> Step {
+        let table = self.room("table", self.table);
+        let script = self.room("script room", script_words(self.n));
+        self.step(Call::Reading { k, table, script })
+    }
+
+    /// Sizes and totals that are easily got wrong are counted on their own.
+    fn note_sizes(&mut self, grammar: &Grammar, total: u128) {
+        let rules = (grammar.event_rules.len(), grammar.pair_rules.len());
+        if (self.n, grammar.symbols, rules) == (64, 64, (512, 256)) {
+            self.tally.add("largest image and record");
+        }
+        if self.n == 0 {
+            self.tally.add("empty record");
+        }
+        let near = 4_294_967_294..=4_294_967_296;
+        if near.contains(&total) {
+            self.tally.add(format!("true total: {total}"));
+        } else if total > u64::MAX.into() {
+            self.tally.add("true total: above 64 bits");
+        }
+    }
+
+    /// Both ends, around the last number that there can be, and any.
+    fn any_k(&mut self, total: u32) -> u32 {
+        match self.random.below(8) {
+            0 => 0,
+            1 => total.saturating_sub(1),
+            2 => total,
+            3 => u32::MAX - self.random.below(3) as u32,
+            4 => self.random.word() as u32,
+            _ => self.random.below(total.max(1) as usize) as u32,
+        }
+    }
+
+    /// A check of a script drawn for this record, or nothing if it has none of the kind drawn.
+    fn any_check(&mut self, grammar: &Grammar, readings: &Readings) -> Option<Step> {
+        let kind = self.random.below(CHANGES.len() + 2);
+        if kind == CHANGES.len() {
+            let script = of_another_symbol(self.random, grammar, self.events, readings)?;
+            return Some(self.check(&script, "of another symbol"));
+        }
+        if readings.total() == 0 {
+            return None;
+        }
+        let mut script = any_reading(self.random, readings);
+        let Some((name, change)) = CHANGES.get(kind) else {
+            let mut step = self.check(&script, "of another record");
+            let events = another_record(self.random, self.events);
+            step.setting.events = Lent::holding(self.random, &events);
+            return Some(step);
+        };
+        change(self.random, readings, &mut script);
+        Some(self.check(&script, name))
+    }
+
+    fn random_words(&mut self) -> Step {
+        let script = random_words(self.random, script_words(self.n));
+        self.check(&script, "random words")
+    }
+
+    fn check(&mut self, script: &[u16], note: &'static str) -> Step {
+        let script = Lent::holding(self.random, script);
+        Step {
+            note,
+            ..self.step(Call::Check { script })
+        }
+    }
+}

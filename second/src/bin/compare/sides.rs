@@ -1,0 +1,207 @@
+//! Both sides behind the same five functions.
+
+use second::services;
+
+/// A refusal's number, or 0, and then the service's other answers in the order of the C function;
+/// 0 where a service has fewer.
+#[derive(Clone, Copy, Debug, PartialEq)]
+pub struct Answer {
+    pub number: u8,
+    pub rest: [u64; 3],
+}
+
+type Test = fn(&[u8]) -> Answer;
+type Judge = fn(&[u8], &[u16], &mut [u64]) -> Answer;
+type Count = fn(&[u8], &[u16], &mut [u32]) -> Answer;
+type Reading = fn(&[u8], &[u16], u32, &mut [u32], &mut [u16]) -> Answer;
+type Check = fn(&[u8], &[u16], &[u16]) -> Answer;
+
+pub struct Side {
+    pub test: Test,
+    pub judge: Judge,
+    pub count: Count,
+    pub reading: Reading,
+    pub check: Check,
+}
+
+pub const SECOND: Side = Side {
+    test: |image| {
+        let tested = services::test(image);
+        let counts = [tested.symbols, tested.event_rules, tested.pair_rules];
+        answer(tested.number, counts.map(|count| count as u64))
+    },
+    judge: |image, events, chart| {
+        let judged = services::judge(image, events, chart);
+        let rest = [judged.admitted.into(), judged.items, judged.firings];
+        answer(judged.number, rest)
+    },
+    count: |image, events, table| {
+        let counted = services::count(image, events, table);
+        answer(counted.number, [counted.total.into(), 0, 0])
+    },
+    reading: |image, events, k, table, script| {
+        let number = services::reading(image, events, k, table, script);
+        answer(number, [0; 3])
+    },
+    check: |image, events, script| {
+        let checked = services::check(image, events, script);
+        answer(checked.number, [checked.yes.into(), 0, 0])
+    },
+};
+
+pub const PROVED: Side = Side {
+    test: proved_test,
+    judge: proved_judge,
+    count: proved_count,
+    reading: proved_reading,
+    check: proved_check,
+};
+
+fn answer(number: u8, rest: [u64; 3]) -> Answer {
+    Answer { number, rest }
+}
+
+// A yes or no is taken as a byte, so that one that is neither 0 nor 1 is seen.
+#[link(name = "boundary", kind = "static")]
+extern "C" {
+    fn reader_test(
+        image: *const u8,
+        image_len: usize,
+        symbols: *mut usize,
+        leaves: *mut usize,
+        pairs: *mut usize,
+    ) -> u8;
+    fn reader_judge(
+        image: *const u8,
+        image_len: usize,
+        events: *const u16,
+        events_len: usize,
+        chart: *mut u64,
+        chart_len: usize,
+        admitted: *mut u8,
+        items: *mut u64,
+        firings: *mut u64,
+    ) -> u8;
+    fn reader_count(
+        image: *const u8,
+        image_len: usize,
+        events: *const u16,
+        events_len: usize,
+        table: *mut u32,
+        table_len: usize,
+        total: *mut u32,
+    ) -> u8;
+    fn reader_reading(
+        image: *const u8,
+        image_len: usize,
+        events: *const u16,
+        events_len: usize,
+        k: u32,
+        table: *mut u32,
+        table_len: usize,
+        script: *mut u16,
+        script_len: usize,
+    ) -> u8;
+    fn reader_check(
+        image: *const u8,
+        image_len: usize,
+        events: *const u16,
+        events_len: usize,
+        script: *const u16,
+        script_len: usize,
+        yes: *mut u8,
+    ) -> u8;
+}
+
+// SAFETY, of every call below: each pointer goes with the length of the slice that it came from or
+// points to a local of its type; the proved side stays within them and keeps none.
+//
+// The locals hold what no answer is, so that one left unwritten is seen.
+
+fn proved_test(image: &[u8]) -> Answer {
+    let [mut symbols, mut leaves, mut pairs] = [usize::MAX; 3];
+    let number = unsafe {
+        reader_test(
+            image.as_ptr(),
+            image.len(),
+            &mut symbols,
+            &mut leaves,
+            &mut pairs,
+        )
+    };
+    answer(number, [symbols, leaves, pairs].map(|count| count as u64))
+}
+
+fn proved_judge(image: &[u8], events: &[u16], chart: &mut [u64]) -> Answer {
+    let (mut admitted, mut items, mut firings) = (u8::MAX, u64::MAX, u64::MAX);
+    let number = unsafe {
+        reader_judge(
+            image.as_ptr(),
+            image.len(),
+            events.as_ptr(),
+            events.len(),
+            chart.as_mut_ptr(),
+            chart.len(),
+            &mut admitted,
+            &mut items,
+            &mut firings,
+        )
+    };
+    answer(number, [admitted.into(), items, firings])
+}
+
+fn proved_count(image: &[u8], events: &[u16], table: &mut [u32]) -> Answer {
+    // Any total may be right here or there; this one hardly ever is.
+    let mut total = 0x5A5A_5A5A;
+    let number = unsafe {
+        reader_count(
+            image.as_ptr(),
+            image.len(),
+            events.as_ptr(),
+            events.len(),
+            table.as_mut_ptr(),
+            table.len(),
+            &mut total,
+        )
+    };
+    answer(number, [total.into(), 0, 0])
+}
+
+fn proved_reading(
+    image: &[u8],
+    events: &[u16],
+    k: u32,
+    table: &mut [u32],
+    script: &mut [u16],
+) -> Answer {
+    let number = unsafe {
+        reader_reading(
+            image.as_ptr(),
+            image.len(),
+            events.as_ptr(),
+            events.len(),
+            k,
+            table.as_mut_ptr(),
+            table.len(),
+            script.as_mut_ptr(),
+            script.len(),
+        )
+    };
+    answer(number, [0; 3])
+}
+
+fn proved_check(image: &[u8], events: &[u16], script: &[u16]) -> Answer {
+    let mut yes = u8::MAX;
+    let number = unsafe {
+        reader_check(
+            image.as_ptr(),
+            image.len(),
+            events.as_ptr(),
+            events.len(),
+            script.as_ptr(),
+            script.len(),
+            &mut yes,
+        )
+    };
+    answer(number, [yes.into(), 0, 0])
+}

@@ -1,0 +1,52 @@
+//! Images for the tests and the comparisons.
+
+/// An image of these rules; each kind is put in order here, and of equal rules one is kept.
+pub fn image(symbols: u8, event_rules: &[(u8, u16)], pair_rules: &[(u8, u8, u8)]) -> Vec<u8> {
+    let (mut event_rules, mut pair_rules) = (event_rules.to_vec(), pair_rules.to_vec());
+    event_rules.sort();
+    event_rules.dedup();
+    pair_rules.sort();
+    pair_rules.dedup();
+    let mut image = b"ESG\x01\x00".to_vec();
+    image.push(symbols);
+    image.extend((event_rules.len() as u16).to_le_bytes());
+    image.extend((pair_rules.len() as u16).to_le_bytes());
+    for (symbol, event) in event_rules {
+        image.push(symbol);
+        image.extend(event.to_le_bytes());
+    }
+    for (symbol, left, right) in pair_rules {
+        image.extend([symbol, left, right]);
+    }
+    image
+}
+
+/// CHAIN: as many readings as there are ways to put brackets.
+pub fn chain() -> Vec<u8> {
+    image(1, &[(0, 7)], &[(0, 0, 0)])
+}
+
+/// STOP: 0 day, 1 stop, 2 press, 3 tail, 4 relay, 5 reset.
+pub fn stop() -> Vec<u8> {
+    let event_rules = [(2, 1), (4, 2), (5, 3)];
+    let pair_rules = [(0, 1, 0), (0, 2, 3), (1, 2, 3), (3, 4, 5)];
+    image(6, &event_rules, &pair_rules)
+}
+
+/// BINARY: a record of zeros and ones has as many readings as the number that it writes, so that
+/// any total can be had. One more digit makes the number twice as large (0 = 0 1 and 0 = 0 2) and
+/// one larger if the digit is one (0 = 3 4); 1 and 2 turn into any digit, 4 into one, and 3 has one
+/// reading over any digits.
+pub fn binary() -> Vec<u8> {
+    let any_digit = [1, 2, 3].into_iter().flat_map(|a| [(a, 0), (a, 1)]);
+    let event_rules: Vec<_> = any_digit.chain([(0, 1), (4, 1)]).collect();
+    let pair_rules = [(0, 0, 1), (0, 0, 2), (0, 3, 4), (3, 3, 1)];
+    image(5, &event_rules, &pair_rules)
+}
+
+/// The record with which BINARY has `total` readings, no leading zero.
+pub fn digits(total: u64) -> Vec<u16> {
+    let length = 64 - total.leading_zeros();
+    let digit = |place: u32| (total >> place & 1) as u16;
+    (0..length).rev().map(digit).collect()
+}

@@ -1,0 +1,12 @@
+//! The reader once more, written from the text of the specification alone and as plainly as it can
+//! be said, so that the proved reader can be compared with it.
+#![forbid(unsafe_code)]
+
+pub mod derive;
+pub mod examples;
+pub mod image;
+pub mod listing;
+pub mod random;
+pub mod readings;
+pub mod services;
+pub mod trees;

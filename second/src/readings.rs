@@ -1,0 +1,141 @@
+//! The readings of a record in their order, and whether words are the script of one.
+
+use crate::derive::{counts, derivable, matches, Table};
+use crate::image::Grammar;
+use crate::trees::{script_words, Forest};
+use std::cell::OnceCell;
+
+/// Up to so many readings all are written down and sorted.
+const FEW: u128 = 2_000;
+
+/// The readings of a record, numbered.
+pub struct Readings<'a> {
+    grammar: &'a Grammar,
+    events: &'a [u16],
+    counts: Table<u128>,
+    /// Every script in order, once one is asked for and where there are few.
+    listed: OnceCell<Vec<Vec<u16>>>,
+}
+
+impl<'a> Readings<'a> {
+    pub fn of(grammar: &'a Grammar, events: &'a [u16]) -> Self {
+        Readings {
+            grammar,
+            events,
+            counts: counts(grammar, events),
+            listed: OnceCell::new(),
+        }
+    }
+
+    /// The number of derivations of [a, 0, n], cut at the largest u128; none of an empty record.
+    pub fn derivations(&self, a: usize) -> u128 {
+        match self.events.len() {
+            0 => 0,
+            n => self.counts.get(a, 0, n),
+        }
+    }
+
+    /// The number of readings, cut at the largest u128.
+    pub fn total(&self) -> u128 {
+        self.derivations(0)
+    }
+
+    /// The count table: each number of derivations, or 4,294,967,295 if that is smaller.
+    pub fn table(&self) -> Vec<u32> {
+        self.counts.words.iter().map(|&count| cut(count)).collect()
+    }
+
+    /// The script of reading `number`, which must be below the total.
+    pub fn script(&self, number: u32) -> Vec<u16> {
+        if self.total() > FEW {
+            return self.unranked(0, 0, self.events.len(), number.into());
+        }
+        let all = || listed(self.grammar, self.events);
+        self.listed.get_or_init(all)[number as usize].clone()
+    }
+
+    /// The script of derivation `number` of [a, i, k], found by how many come before it; `number`
+    /// must be below their count. It is only compared with counts and divided by one, and it is far
+    /// below the largest u128, so that a count cut there does as well as the true one.
+    ///
+    /// The scripts of one stretch are equally long, and so are their left parts if the splits are
+    /// equal. So the rule decides first, then the split, then the left part, then the right part.
+    pub fn unranked(&self, a: usize, i: usize, k: usize, mut number: u128) -> Vec<u16> {
+        for (rule, event_rule) in self.grammar.event_rules_of(a) {
+            if matches(event_rule, self.events, i, k) {
+                if number == 0 {
+                    return vec![rule as u16, k as u16];
+                }
+                number -= 1;
+            }
+        }
+        for (rule, pair) in self.grammar.pair_rules_of(a) {
+            for j in i + 1..k {
+                let rights = self.counts.get(pair.right, j, k);
+                let both = self.counts.get(pair.left, i, j).saturating_mul(rights);
+                if number < both {
+                    let left = self.unranked(pair.left, i, j, number / rights);
+                    let right = self.unranked(pair.right, j, k, number % rights);
+                    return [vec![rule as u16, j as u16], left, right].concat();
+                }
+                number -= both;
+            }
+        }
+        panic!("there is no derivation of this number");
+    }
+}
+
+/// The smaller of 4,294,967,295 and the count.
+pub fn cut(count: u128) -> u32 {
+    count.min(u32::MAX.into()) as u32
+}
+
+/// The script of every derivation of [0, 0, n], sorted. Lists of words are compared word by word
+/// and the first difference decides.
+pub fn listed(grammar: &Grammar, events: &[u16]) -> Vec<Vec<u16>> {
+    if events.is_empty() {
+        return Vec::new();
+    }
+    let forest = Forest {
+        grammar,
+        events,
+        derivable: &derivable(grammar, events),
+    };
+    let trees = forest.trees(0, 0, events.len());
+    let mut scripts: Vec<_> = trees.iter().map(|tree| tree.script()).collect();
+    scripts.sort();
+    scripts
+}
+
+/// Whether the words are the script of a derivation of [0, 0, n].
+pub fn is_reading(grammar: &Grammar, events: &[u16], words: &[u16]) -> bool {
+    !events.is_empty() && is_script(grammar, events, words, 0, 0, events.len())
+}
+
+/// Whether the words are the script of a derivation of [a, i, k].
+fn is_script(
+    grammar: &Grammar,
+    events: &[u16],
+    words: &[u16],
+    a: usize,
+    i: usize,
+    k: usize,
+) -> bool {
+    if words.len() != script_words(k - i) {
+        return false;
+    }
+    let (number, split) = (words[0] as usize, words[1] as usize);
+    if k == i + 1 {
+        let mut rules = grammar.event_rules_of(a);
+        return split == i + 1 && rules.any(|(r, rule)| r == number && matches(rule, events, i, k));
+    }
+    let Some((_, rule)) = grammar.pair_rules_of(a).find(|(r, _)| *r == number) else {
+        return false;
+    };
+    if !(i < split && split < k) {
+        return false;
+    }
+    let (left, right) = words[2..].split_at(script_words(split - i));
+    is_script(grammar, events, left, rule.left, i, split)
+        && is_script(grammar, events, right, rule.right, split, k)
+}

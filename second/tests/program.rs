@@ -1,0 +1,66 @@
+//! The listing program's output.
+
+use second::examples::{binary, chain, digits, image, stop};
+use second::listing::output;
+
+/// The listing of these events as a file.
+fn listed(image: &[u8], events: &[u16]) -> String {
+    let bytes: Vec<u8> = events.iter().flat_map(|e| e.to_le_bytes()).collect();
+    output(Some(image), Some(&bytes))
+}
+
+#[test]
+fn chain_7_7_7() {
+    let told = "readings 2\n1 1 0 1 1 2 0 2 0 3\n1 2 1 1 0 1 0 2 0 3\n";
+    assert_eq!(listed(&chain(), &[7; 3]), told);
+}
+
+#[test]
+fn no_file() {
+    assert_eq!(output(None, None), "no file\n");
+    assert_eq!(output(None, Some(&[])), "no file\n");
+    assert_eq!(output(Some(b"bad"), None), "no file\n");
+}
+
+#[test]
+fn refusals_in_their_order() {
+    let refused = |image: &[u8], length| output(Some(image), Some(&vec![0; length]));
+    assert_eq!(refused(b"ESG", 129), "refused 1\n");
+    assert_eq!(refused(&[chain(), vec![0]].concat(), 129), "refused 5\n");
+    assert_eq!(refused(&chain(), 129), "refused 8\n");
+    assert_eq!(refused(&chain(), 130), "refused 8\n");
+    assert_eq!(refused(&chain(), 127), "refused 14\n");
+    assert_eq!(refused(&image(64, &[], &[]), 127), "refused 14\n");
+    assert_eq!(refused(&image(64, &[], &[]), 128), "refused 10\n");
+    assert_eq!(refused(&image(8, &[], &[]), 128), "refused 10\n");
+    assert_eq!(refused(&image(7, &[], &[]), 128), "readings 0\n");
+    assert_eq!(refused(&image(64, &[], &[]), 46), "refused 10\n");
+    assert_eq!(refused(&image(64, &[], &[]), 44), "readings 0\n");
+}
+
+#[test]
+fn totals_and_the_first_hundred() {
+    for (total, first) in [
+        (1, "readings 1\n"),
+        (99, "readings 99\n"),
+        (100, "readings 100\n"),
+        (101, "readings 101\n"),
+        (4_294_967_294, "readings 4294967294\n"),
+        (4_294_967_295, "readings 4294967295 or more\n"),
+        (4_294_967_296, "readings 4294967295 or more\n"),
+    ] {
+        let text = listed(&binary(), &digits(total));
+        assert!(text.starts_with(first), "{text}");
+        assert_eq!(text.lines().count() as u64, 1 + total.min(100));
+    }
+}
+
+#[test]
+fn no_readings() {
+    assert_eq!(listed(&chain(), &[]), "readings 0\n");
+    assert_eq!(listed(&stop(), &[1, 2]), "readings 0\n");
+    // Low byte first: the event is 7, and not 1,792.
+    assert_eq!(output(Some(&chain()), Some(&[0, 7])), "readings 0\n");
+    let one = "readings 1\n0 1\n";
+    assert_eq!(output(Some(&chain()), Some(&[7, 0])), one);
+}

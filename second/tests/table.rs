@@ -1,0 +1,119 @@
+//! The rows of the specification's two grammars.
+
+use second::examples::{chain, stop};
+use second::services::{check, count, judge, reading, Checked, Counted, Judged};
+
+/// More than any row needs.
+const CHART: usize = 2_080;
+const TABLE: usize = 2_080 * 6;
+const SCRIPT: usize = 254;
+
+/// Admitted, items, firings, and the readings if the row names them.
+type Row = (
+    &'static str,
+    Vec<u8>,
+    Vec<u16>,
+    (bool, u64, u64),
+    Option<u32>,
+);
+
+fn rows() -> Vec<Row> {
+    vec![
+        ("none", chain(), vec![], (false, 0, 0), Some(0)),
+        ("7", chain(), vec![7], (true, 1, 1), Some(1)),
+        ("7 7", chain(), vec![7; 2], (true, 3, 3), Some(1)),
+        ("7 7 7", chain(), vec![7; 3], (true, 6, 7), Some(2)),
+        ("four 7s", chain(), vec![7; 4], (true, 10, 14), Some(5)),
+        ("7 8", chain(), vec![7, 8], (false, 1, 1), None),
+        ("1 2 3", stop(), vec![1, 2, 3], (true, 6, 6), None),
+        ("1 2", stop(), vec![1, 2], (false, 2, 2), None),
+        (
+            "1 2 3 1 2 3",
+            stop(),
+            vec![1, 2, 3, 1, 2, 3],
+            (true, 13, 13),
+            Some(1),
+        ),
+    ]
+}
+
+fn total(image: &[u8], events: &[u16]) -> Counted {
+    count(image, events, &mut [0; TABLE])
+}
+
+fn script(image: &[u8], events: &[u16], k: u32) -> (u8, Vec<u16>) {
+    let mut words = vec![0; SCRIPT];
+    let number = reading(image, events, k, &mut [0; TABLE], &mut words);
+    words.truncate(if number == 0 { 4 * events.len() - 2 } else { 0 });
+    (number, words)
+}
+
+#[test]
+fn rows_marked_for_proof() {
+    for (name, image, events, (admitted, items, firings), readings) in rows() {
+        let told = Judged {
+            number: 0,
+            admitted,
+            items,
+            firings,
+        };
+        assert_eq!(judge(&image, &events, &mut [0; CHART]), told, "{name}");
+        let counted = total(&image, &events);
+        assert_eq!(counted.number, 0, "{name}");
+        assert_eq!(counted.total > 0, admitted, "{name}");
+        assert_eq!(
+            counted.total,
+            readings.unwrap_or(counted.total),
+            "{name}: its readings"
+        );
+    }
+}
+
+#[test]
+fn image_of_chain() {
+    let bytes = [0x45, 0x53, 0x47, 1, 0, 1, 1, 0, 1, 0, 0, 7, 0, 0, 0, 0];
+    assert_eq!(chain(), bytes);
+}
+
+#[test]
+fn first_readings() {
+    assert_eq!(script(&chain(), &[7], 0), (0, vec![0, 1]));
+    let words = vec![4, 1, 0, 1, 6, 2, 1, 2, 2, 3];
+    assert_eq!(script(&stop(), &[1, 2, 3], 0), (0, words.clone()));
+    let yes = Checked {
+        number: 0,
+        yes: true,
+    };
+    assert_eq!(check(&stop(), &[1, 2, 3], &words), yes);
+}
+
+#[test]
+fn two_findings_in_one_cell() {
+    let mut chart = [0; 6];
+    judge(&stop(), &[1, 2, 3], &mut chart);
+    assert_eq!(chart, [1 << 2, 0, 1 << 4, 3, 1 << 3, 1 << 5]);
+}
+
+#[test]
+fn many_readings() {
+    let told = |total| Counted { number: 0, total };
+    assert_eq!(total(&chain(), &[7; 20]), told(1_767_263_190));
+    assert_eq!(total(&chain(), &[7; 21]), told(4_294_967_295));
+    let (number, words) = script(&chain(), &[7; 21], 4_294_967_294);
+    assert_eq!(number, 0);
+    assert!(check(&chain(), &[7; 21], &words).yes);
+    assert_eq!(script(&chain(), &[7; 21], 4_294_967_295).0, 13);
+    assert_eq!(script(&chain(), &[7; 3], 2).0, 12);
+}
+
+#[test]
+fn most_events() {
+    assert_eq!(judge(&chain(), &[7; 64], &mut [0; CHART]).number, 0);
+    assert_eq!(total(&chain(), &[7; 64]).number, 0);
+    assert_eq!(script(&chain(), &[7; 64], 0).0, 0);
+    assert_eq!(check(&chain(), &[7; 64], &[]).number, 0);
+    assert_eq!(judge(&chain(), &[7; 65], &mut [0; CHART]).number, 8);
+    assert_eq!(total(&chain(), &[7; 65]).number, 8);
+    assert_eq!(script(&chain(), &[7; 65], 0).0, 8);
+    assert_eq!(check(&chain(), &[7; 65], &[]).number, 8);
+}
