@@ -1,9 +1,9 @@
 // A line that judges a record: behind the image its events, two bytes each, and a byte for each word of the lent chart as it is before.
 // Written are the number, the verdict, the items, the firings, and every word of the chart as it is afterwards.
-use super::parse::find;
-use super::parse::read_bytes;
-use super::write::value;
-use super::write::values;
+use lines::find;
+use lines::read_bytes;
+use lines::read_words;
+use lines::value;
 ghost use Prim.Native.Nat.{_≤_, _<_};
 ghost use lib.ListN.{length};
 
@@ -13,25 +13,8 @@ fn wide(byte: u8) -> u16
     byte as u16
 }
 
-// Events, low byte first.
-fn read_events(text: &[u8], events: &mut [u16]) -> usize
-    ensures { λ r. ⌜ r ≤ length (now (events .exit)) ⌝ }
-{
-    let mut bytes = [0u8; 256];
-    let count = read_bytes(text, &mut bytes);
-    let mut n = 0;
-    while n < count / 2 {
-        if events.len() <= n {
-            return n;
-        }
-        events[n] = wide(bytes[2 * n]) + 256 * wide(bytes[2 * n + 1]);
-        n += 1;
-    }
-    n
-}
-
 // Words, a byte each.
-fn read_words(text: &[u8], words: &mut [u64]) -> usize
+fn read_chart(text: &[u8], words: &mut [u64]) -> usize
     ensures { λ r. ⌜ r ≤ length (now (words .exit)) ⌝ }
 {
     let mut bytes = [0u8; 2304];
@@ -45,6 +28,12 @@ fn read_words(text: &[u8], words: &mut [u64]) -> usize
         n += 1;
     }
     n
+}
+
+fn values(words: &[u64]) {
+    for x in 0..words.len() {
+        value(words[x]);
+    }
 }
 
 fn answer(image: &[u8], events: &[u16], chart: &mut [u64]) {
@@ -61,11 +50,11 @@ pub fn run(image: &[u8], text: &[u8]) {
     let mut events = [0u16; 128];
     let mut chart = [0u64; 2304];
     let end = find(text, 0, b';');
-    let n = read_events(&text[..end], &mut events);
+    let n = read_words(&text[..end], &mut events);
     if end == text.len() {
         return;
     }
     let behind = end + 1;
-    let size = read_words(&text[behind..], &mut chart);
+    let size = read_chart(&text[behind..], &mut chart);
     answer(image, &events[..n], &mut chart[..size]);
 }

@@ -1,15 +1,21 @@
 // Runs the services on each line of standard input, and writes the line's name with the answers.
 // A line is a name, a colon, and a space and two digits for each byte of an image. Where nothing follows, the image is tested: written
-// are the number with N, L and B, and the numbers for records of 64 and of 65 events. Where a semicolon follows, a record is judged.
+// are the number with N, L and B, and the numbers for records of 64 and of 65 events. Where a semicolon follows, a record is judged, and
+// where a bar follows, its readings are asked for: behind the bar are its events, two bytes each, and a line that ends there asks for
+// every number.
 mod judging; // a line that judges a record
-mod parse; // lines of text
-mod write; // numbers
+mod ask; // a line that asks for one number
+mod every; // a line that asks for every number
+mod digest; // words as they are written
 
 use libc::STDIN_FILENO;
 use libc::STDOUT_FILENO;
-use parse::find;
-use parse::read_bytes;
-use write::value;
+use lines::find;
+use lines::read_bytes;
+use lines::read_words;
+use lines::value;
+ghost use Prim.Native.Nat.{_<_};
+ghost use lib.ListN.{length};
 
 fn test(image: &[u8]) {
     let t = image::test_image(image);
@@ -23,8 +29,35 @@ fn test(image: &[u8]) {
     value(more.number as u64);
 }
 
+// What follows the bar.
+fn run_readings(image: &[u8], text: &[u8]) {
+    let mut events = [0u16; 128];
+    let end = find(text, 0, b';');
+    let n = read_words(&text[..end], &mut events);
+    if end == text.len() {
+        every::run(image, &events[..n]);
+        return;
+    }
+    let behind = end + 1;
+    ask::run(image, &events[..n], &text[behind..]);
+}
+
+// What follows the name, where there is a bar in it.
+fn run_barred(text: &[u8], bar: usize, image: &mut [u8])
+    requires { ⌜ bar < length (now text) ⌝ }
+{
+    let count = read_bytes(&text[..bar], image);
+    let behind = bar + 1;
+    run_readings(&image[..count], &text[behind..]);
+}
+
 // What follows the name.
 fn run_case(text: &[u8], image: &mut [u8]) {
+    let bar = find(text, 0, b'|');
+    if bar < text.len() {
+        run_barred(text, bar, image);
+        return;
+    }
     let end = find(text, 0, b';');
     let count = read_bytes(&text[..end], image);
     if end == text.len() {

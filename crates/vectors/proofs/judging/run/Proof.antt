@@ -9,14 +9,14 @@ use Rattle.vectors.proofs.judging.run.Tie as tie
 find-requires : tie.Need-find-requires
 find-requires c κs = search needs
 
-slice-aggregate-read-events : tie.Need-slice-aggregate-read-events
-slice-aggregate-read-events c = sym (length-take-le _ _ (c .before .find .ensures .1))
+slice-aggregate-read-words : tie.Need-slice-aggregate-read-words
+slice-aggregate-read-words c = sym (length-take-le _ _ (c .before .find .ensures .1))
 
-slice-aggregate-read-events-2 : tie.Need-slice-aggregate-read-events-2
-slice-aggregate-read-events-2 c = search needs
+slice-aggregate-read-words-2 : tie.Need-slice-aggregate-read-words-2
+slice-aggregate-read-words-2 c = search needs
 
-read-events-requires : tie.Need-read-events-requires
-read-events-requires c κs = search needs
+read-words-requires : tie.Need-read-words-requires
+read-words-requires c κs = search needs
 
 returns : tie.Need-returns
 returns c = search needs
@@ -24,32 +24,32 @@ returns c = search needs
 add-behind : tie.Need-add-behind
 add-behind c = search needs
 
-sub-read-words : tie.Need-sub-read-words
-sub-read-words c = search needs
+sub-read-chart : tie.Need-sub-read-chart
+sub-read-chart c = search needs
 
-part-read-words-start : tie.Need-part-read-words-start
-part-read-words-start c = search needs
+part-read-chart-start : tie.Need-part-read-chart-start
+part-read-chart-start c = search needs
 
-part-read-words-end : tie.Need-part-read-words-end
-part-read-words-end c = search needs
+part-read-chart-end : tie.Need-part-read-chart-end
+part-read-chart-end c = search needs
 
-slice-aggregate-read-words : tie.Need-slice-aggregate-read-words
-slice-aggregate-read-words c = search needs
+slice-aggregate-read-chart : tie.Need-slice-aggregate-read-chart
+slice-aggregate-read-chart c = search needs
 
-read-words-requires : tie.Need-read-words-requires
-read-words-requires c κs = search needs
+read-chart-requires : tie.Need-read-chart-requires
+read-chart-requires c κs = search needs
 
 array-share-prefix-events : tie.Need-array-share-prefix-events
 array-share-prefix-events c = search needs
 
 slice-aggregate-answer : tie.Need-slice-aggregate-answer
-slice-aggregate-answer c = sym (length-take-le _ _ (c .before .before .before .before .before .before .before .read-events .ensures))
+slice-aggregate-answer c = sym (length-take-le _ _ (c .before .before .before .before .before .before .before .read-words .ensures))
 
 array-borrow-prefix-chart : tie.Need-array-borrow-prefix-chart
 array-borrow-prefix-chart c = search needs
 
 slice-aggregate-answer-2 : tie.Need-slice-aggregate-answer-2
-slice-aggregate-answer-2 c = sym (length-take-le _ _ (c .before .before .before .read-words .ensures))
+slice-aggregate-answer-2 c = sym (length-take-le _ _ (c .before .before .before .read-chart .ensures))
 
 answer-requires : tie.Need-answer-requires
 answer-requires c κs = search needs
@@ -62,16 +62,16 @@ run-spec =
     tie.close
     (tie.spec
     find-requires
-    slice-aggregate-read-events
-    slice-aggregate-read-events-2
-    read-events-requires
+    slice-aggregate-read-words
+    slice-aggregate-read-words-2
+    read-words-requires
     returns
     add-behind
-    sub-read-words
-    part-read-words-start
-    part-read-words-end
-    slice-aggregate-read-words
-    read-words-requires
+    sub-read-chart
+    part-read-chart-start
+    part-read-chart-end
+    slice-aggregate-read-chart
+    read-chart-requires
     array-share-prefix-events
     slice-aggregate-answer
     array-borrow-prefix-chart

@@ -1,11 +1,12 @@
 -- The measure is the number of words that are left.
 -- Assumes nothing.
-use Prim.Native.Nat.{_-_}
 use mathlib.Core.Path.{_≡_}
+use Prim.Native.Nat.{_-_}
+use native.Mathlib.Omega.{arith}
 use lib.ListN.{length}
 use borrow.Author.Needs.{needs}
-use Rattle.vectors.proofs.write.values.Statement.{statement}
-use Rattle.vectors.proofs.write.values.Tie as tie
+use Rattle.vectors.proofs.digest.write_script.Statement.{statement}
+use Rattle.vectors.proofs.digest.write_script.Tie as tie
 
 abbrev Inv-loop : tie.InvT-loop
 Inv-loop words x₀ x-end x = x-end ≡ length words
@@ -22,6 +23,9 @@ mul-value c = search needs
 shared-slice-read-value : tie.Need-shared-slice-read-value Inv-loop μ-loop
 shared-slice-read-value c = search needs
 
+cast-value : tie.Need-cast-value Inv-loop μ-loop
+cast-value c = omega (arith, c .shared-slice-known2 .given (c .before .before .loop .x))
+
 value-requires : tie.Need-value-requires Inv-loop μ-loop
 value-requires c κs = search needs
 
@@ -37,8 +41,8 @@ loop-again c = search needs
 returns : tie.Need-returns Inv-loop μ-loop
 returns c = search needs
 
-pub values-spec : {M : Type 1} → statement M
-values-spec =
+pub write-script-spec : {M : Type 1} → statement M
+write-script-spec =
     tie.close
     (tie.spec
     Inv-loop
@@ -46,6 +50,7 @@ values-spec =
     loop-holds
     mul-value
     shared-slice-read-value
+    cast-value
     value-requires
     add-x
     loop-less

@@ -1,18 +1,18 @@
 -- The invariant: the room keeps its length, and no more was read than it and the text hold.
 -- Assumes nothing.
-use Prim.Native.Nat.{_≤_, _-_}
 use mathlib.Core.Path.{_≡_}
+use Prim.Native.Nat.{_≤_, _-_, _/_}
+use native.Mathlib.Omega.{arith}
 use lib.ListN.{length, length-set}
 use borrow.Author.Needs.{needs}
-use native.Mathlib.Omega.{arith}
-use Rattle.vectors.proofs.judging.read_words.Statement.{statement}
-use Rattle.vectors.proofs.judging.read_words.Tie as tie
+use Rattle.lines.proofs.read_words.Statement.{statement}
+use Rattle.lines.proofs.read_words.Tie as tie
 
 abbrev Inv-loop : tie.InvT-loop
-Inv-loop text words₀ bytes count n₀ words n = (length words ≡ length words₀) × (n ≤ length words) × (n ≤ count) × (count ≤ 2304) × (length bytes ≡ 2304)
+Inv-loop text words₀ bytes count n₀ words n = (length words ≡ length words₀) × (n ≤ length words) × (n ≤ count / 2) × (count ≤ 512) × (length bytes ≡ 512)
 
 abbrev μ-loop : tie.MeasureT-loop
-μ-loop text words₀ bytes count n₀ words n = count - n
+μ-loop text words₀ bytes count n₀ words n = count / 2 - n
 
 slice-aggregate-read-bytes : tie.Need-slice-aggregate-read-bytes Inv-loop μ-loop
 slice-aggregate-read-bytes c = search needs
@@ -29,14 +29,23 @@ same-length c = search needs
 returns : tie.Need-returns Inv-loop μ-loop
 returns c = search needs
 
-array-read-wide : tie.Need-array-read-wide Inv-loop μ-loop
-array-read-wide c = search needs
+mul-word : tie.Need-mul-word Inv-loop μ-loop
+mul-word c = search needs
 
-wide-requires : tie.Need-wide-requires Inv-loop μ-loop
-wide-requires c κs = search needs
+array-read-word : tie.Need-array-read-word Inv-loop μ-loop
+array-read-word c = search needs
 
-cast-words : tie.Need-cast-words Inv-loop μ-loop
-cast-words c = search needs
+mul-word-2 : tie.Need-mul-word-2 Inv-loop μ-loop
+mul-word-2 c = search needs
+
+add-word : tie.Need-add-word Inv-loop μ-loop
+add-word c = search needs
+
+array-read-word-2 : tie.Need-array-read-word-2 Inv-loop μ-loop
+array-read-word-2 c = search needs
+
+word-requires : tie.Need-word-requires Inv-loop μ-loop
+word-requires c κs = search needs
 
 mul-words : tie.Need-mul-words Inv-loop μ-loop
 mul-words c = search needs
@@ -70,9 +79,12 @@ read-words-spec =
     loop-holds
     same-length
     returns
-    array-read-wide
-    wide-requires
-    cast-words
+    mul-word
+    array-read-word
+    mul-word-2
+    add-word
+    array-read-word-2
+    word-requires
     mul-words
     slice-write-words
     add-n

@@ -5,8 +5,8 @@ use mathlib.Core.Path.{_≡_}
 use lib.ListN.{length, length-set}
 use borrow.Author.Needs.{needs}
 use native.Mathlib.Omega.{arith}
-use Rattle.vectors.proofs.parse.read_bytes.Statement.{statement}
-use Rattle.vectors.proofs.parse.read_bytes.Tie as tie
+use Rattle.lines.proofs.read_bytes.Statement.{statement}
+use Rattle.lines.proofs.read_bytes.Tie as tie
 
 abbrev Inv-loop : tie.InvT-loop
 Inv-loop text image₀ count₀ image count = (length image ≡ length image₀) × (count ≤ length image) × (count ≤ length text / 3)

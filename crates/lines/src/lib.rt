@@ -1,4 +1,5 @@
-// Lines of text: where a mark stands, and the bytes that a text shows.
+// Lines of text for the programs that run vectors: where a mark stands, the bytes and words that a text shows, numbers as they are written.
+use libc::STDOUT_FILENO;
 ghost use Prim.Native.Nat.{_≤_, _<_};
 ghost use lib.ListN.{length};
 
@@ -38,4 +39,32 @@ pub fn read_bytes(text: &[u8], image: &mut [u8]) -> usize
         count += 1;
     }
     count
+}
+
+// The 16-bit number of two bytes, low byte first.
+pub fn word(low: u8, high: u8) -> u16 {
+    low as u16 + 256 * (high as u16)
+}
+
+// The words that a text shows, two bytes each, at most 256 and as many as there is room for; answers how many.
+pub fn read_words(text: &[u8], words: &mut [u16]) -> usize
+    ensures { λ r. ⌜ r ≤ length (now (words .exit)) ⌝ }
+{
+    let mut bytes = [0u8; 512];
+    let count = read_bytes(text, &mut bytes);
+    let mut n = 0;
+    while n < count / 2 {
+        if words.len() <= n {
+            return n;
+        }
+        words[n] = word(bytes[2 * n], bytes[2 * n + 1]);
+        n += 1;
+    }
+    n
+}
+
+// Writes a number behind a space.
+pub fn value(n: u64) {
+    io::write_all(STDOUT_FILENO, b" ");
+    io::print_decimal(STDOUT_FILENO, n);
 }

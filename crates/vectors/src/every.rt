@@ -1,0 +1,69 @@
+// Every number of a record of 1 to 64 events: written are how many readings there are, how many of the scripts pass the check, a number
+// made of all their words, and the refusal of the number past the last.
+use super::digest::mix_script;
+use lines::value;
+ghost use Prim.Native.Nat.{_+_, _≤_, _<_};
+
+// How many scripts passed the check, and the number made of all their words.
+pub struct Passed {
+    pub yes: u64,
+    pub sum: u64,
+}
+
+fn count(image: &[u8], events: &[u16]) -> u32 {
+    let mut table = [0u32; 2304];
+    let counted = readings::count(image, events, &mut table);
+    counted.total
+}
+
+// One number more: its script has so many words.
+fn pass(image: &[u8], events: &[u16], words: usize, k: u32, was: Passed) -> Passed
+    requires { ⌜ (words ≤ 256) × (was .yes < 4294967296) × (was .sum < 4294967296) ⌝ }
+    ensures { λ r. ⌜ (r .yes ≤ was .yes + 1) × (r .sum < 4294967296) ⌝ }
+{
+    let mut table = [0u32; 2304];
+    let mut room = [0u16; 256];
+    readings::reading(image, events, k, &mut table, &mut room);
+    let checked = readings::check(image, events, &room[..words]);
+    let sum = mix_script(&room[..words], was.sum);
+    if checked.yes {
+        let yes = was.yes + 1;
+        return Passed { yes, sum };
+    }
+    Passed { yes: was.yes, sum }
+}
+
+fn refusal(image: &[u8], events: &[u16], k: u32) -> u8 {
+    let mut table = [0u32; 2304];
+    let mut room = [0u16; 256];
+    let read = readings::reading(image, events, k, &mut table, &mut room);
+    read.number
+}
+
+fn pass_all(image: &[u8], events: &[u16], words: usize, total: u32) -> Passed
+    requires { ⌜ words ≤ 256 ⌝ }
+{
+    let mut passed = Passed { yes: 0, sum: 0 };
+    for k in 0..total {
+        passed = pass(image, events, words, k, passed);
+    }
+    passed
+}
+
+pub fn run(image: &[u8], events: &[u16]) {
+    let n = events.len();
+    if 64 < n {
+        return;
+    }
+    if n == 0 {
+        return;
+    }
+    let words = 4 * n - 2;
+    let total = count(image, events);
+    let passed = pass_all(image, events, words, total);
+    value(total as u64);
+    value(passed.yes);
+    value(passed.sum);
+    let past = refusal(image, events, total);
+    value(past as u64);
+}
