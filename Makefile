@@ -1,11 +1,11 @@
 SHELL := bash
 .SHELLFLAGS := -o pipefail -c
-.PHONY: example test bench compare clean
+.PHONY: example test bench compare soak clean
 
-# Proves and builds the test of a grammar image, and runs it on an accepted image and on a damaged one.
+# Proves and builds the program that runs the services on lines of text, and runs it on a few.
 example:
 	@rt check vectors | grep '^rt:'
-	@tools/run vectors <examples/images.txt
+	@tools/run vectors <examples/lines.txt
 
 # Every check there is; ends with 'N passed, M failed', and with status 0 exactly when all passed.
 test:
@@ -14,10 +14,13 @@ test:
 clean:
 	rm -rf target
 
-# Measures `judge` beside the plain loop in Rust; the archive is x86-64 code.
+# Measures the services beside the same loops in plain Rust; the archive is x86-64 code.
 bench:
 	@tools/bench
 
-# Compares `judge` with a second implementation in Rust on random cases, also on a processor that the archive is not for.
+# Compares the services with the second implementation in random cases: 20,000, as `make test` does, or a million.
 compare:
-	@tools/bench $$([ "$$(uname -m)" = x86_64 ] || echo --native) --check 20000
+	@tools/compare 20000
+
+soak:
+	@tools/compare --seed $$(date +%s) 1000000

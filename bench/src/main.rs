@@ -1,12 +1,10 @@
 //! Compares the proved services with the same services in plain Rust: first the answers and the
 //! words left in the lent memory, then the time of a whole call. The first argument is the number
-//! of rounds; `--only` and a name select one service; with `--check N` the answers of `judge` in N
-//! random cases are compared instead and nothing is timed.
+//! of rounds; `--only` and a name select one service.
 
 mod alike;
 mod answers;
 mod case;
-mod check;
 mod grammars;
 mod ours;
 mod plain;
@@ -21,7 +19,6 @@ use std::process::ExitCode;
 /// Does what the arguments ask for, or nothing where they ask for nothing that there is.
 fn run(words: &[&str]) -> Option<()> {
     let (rounds, only) = match *words {
-        ["--check", count] => return positive(count).map(check::run),
         [] => ("15", None),
         [rounds] => (rounds, None),
         ["--only", name] => ("15", Some(name)),
@@ -50,7 +47,7 @@ fn main() -> ExitCode {
     let words: Vec<String> = std::env::args().skip(1).collect();
     let words: Vec<&str> = words.iter().map(String::as_str).collect();
     if run(&words).is_none() {
-        eprintln!("arguments: [ROUNDS] [--only judge|count|reading|check], or --check CASES");
+        eprintln!("arguments: [ROUNDS] [--only judge|count|reading|check]");
         return ExitCode::from(2);
     }
     ExitCode::SUCCESS

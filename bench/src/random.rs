@@ -20,8 +20,4 @@ impl Random {
     pub fn below(&mut self, count: usize) -> usize {
         (((self.word() >> 32) * count as u64) >> 32) as usize
     }
-
-    pub fn one_of<T: Copy>(&mut self, choices: &[T]) -> T {
-        choices[self.below(choices.len())]
-    }
 }

@@ -10,7 +10,7 @@ use crate::{ours, plain};
 type Judge = fn(&[u8], &[u16], &mut [u64]) -> Judged;
 
 /// Both sides, in the order of every table and message.
-pub const SIDES: [Judge; 2] = [ours::judge, plain::judge];
+const SIDES: [Judge; 2] = [ours::judge, plain::judge];
 
 pub fn run(rounds: usize) {
     let side = |judge: Judge| {
