@@ -70,7 +70,7 @@ write-script-requires c κs =
       o .count .image,
       (
         counts-in _ _ _ _ (o .count .fits) f,
-        ((some-readings _ _ _ (q .0), omega arith, omega (arith, o .count .few), rw sub-zero (o .fits)), (q .1, q .0)),
+        ((some-readings _ _ _ (q .0), omega arith, omega (arith, o .count .few), rw sub-zero (o .fits)), (omega (arith, q .1), omega (arith, q .0))),
       ),
     )
 
