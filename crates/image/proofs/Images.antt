@@ -69,7 +69,7 @@ module _ (b : List ℕ) (n : ℕ) (e : n ≡ 0) (p : First (byteRows b) n) where
 -- ---- what is accepted
 module _ (b : List ℕ) where
   -- from every demand on it
-  holding : AllHold (imageRows b) → Accepted b
+  pub holding : AllHold (imageRows b) → Accepted b
   holding h =
       let q = h .1 .1 .1 .0 in
       record {

@@ -1,0 +1,109 @@
+-- The lines of the first scripts, one more at a time; and one outcome only.
+-- Assumes nothing.
+use mathlib.Core.Path.{_≡_, refl, sym, ap, _∙_}
+use mathlib.Core.List.{List, [], _∷_, _++_, map, append-assoc, append-nil}
+use Prim.Native.Nat.{ℕ, zero, suc, _+_, _*_, _≤_, _<_}
+use native.Mathlib.Numerals.{add-one}
+use native.Mathlib.Nat.{sub-zero, not-suc-le-zero}
+use native.Mathlib.Decide.{ℕ-discrete, decLt}
+use native.Mathlib.Omega.{arith}
+use borrow.Author.Tests.{eq-eqb, ne-eqb}
+use lib.ListN.{length, getD, take, drop, length-map}
+use lib.Seq.{take-suc, take-all, take-at}
+use Rattle.derivation.specs.Grammar.{Grammar}
+use Rattle.derivation.specs.Tree.{Tree, script, scriptWords}
+use Rattle.derivation.specs.Derivations.{readings, scripts}
+use Rattle.derivation.specs.Numbering.{none}
+use Rattle.derivation.proofs.Numbering.{readings-numbered}
+use Rattle.derivation.proofs.Scripts.{script-length}
+use Rattle.image.proofs.Refusals.{first-only}
+use Rattle.table.specs.Table.{limit, held}
+use Rattle.readings.specs.Count.{howMany}
+use Rattle.text.specs.Text.{line}
+use Rattle.listing.specs.Listing.{mostListed, lineBytes, refusedLine, orMore, lines, ListingIs}
+
+-- ---- one piece behind the other
+pub refused-text : (h n t u v : List ℕ) → t ≡ h → u ≡ t ++ n → v ≡ u ++ (10 ∷ []) → v ≡ h ++ (n ++ (10 ∷ []))
+refused-text h n t u v a b c = c ∙ rw (b, a) (append-assoc h n (10 ∷ []))
+
+pub heading-text : (h n m t u v x : List ℕ) → t ≡ h → u ≡ t ++ n → v ≡ u ++ m → x ≡ v ++ (10 ∷ []) → x ≡ h ++ (n ++ (m ++ (10 ∷ [])))
+heading-text h n m t u v x a b c d =
+    d ∙ rw (c, b, a) (append-assoc (h ++ n) m (10 ∷ []) ∙ append-assoc h n (m ++ (10 ∷ [])))
+
+pub or-more-no : (t : ℕ) → (t ≡ limit → ⊥) → orMore t ≡ []
+or-more-no t n = rw (ne-eqb t limit n)
+
+pub or-more-yes : (t : ℕ) → t ≡ limit → orMore t ≡ 32 ∷ 111 ∷ 114 ∷ 32 ∷ 109 ∷ 111 ∷ 114 ∷ 101 ∷ []
+or-more-yes t e = rw (eq-eqb t limit e)
+
+-- ---- lines
+lines-more : (ss : List (List ℕ)) (s : List ℕ) → lines (ss ++ (s ∷ [])) ≡ lines ss ++ line s
+unfolding lines
+lines-more [] s = append-nil (line s)
+lines-more (x ∷ ss) s = ap (λ (l : List ℕ). line x ++ l) (lines-more ss s) ∙ sym (append-assoc (line x) (lines ss) (line s))
+
+lines-next : (ss : List (List ℕ)) (k : ℕ) → k < length ss → lines (take (k + 1) ss) ≡ lines (take k ss) ++ line (getD ss k [])
+lines-next ss k h =
+    ap (λ (n : ℕ). lines (take n ss)) (add-one k) ∙ ap lines (take-suc ss k [] h) ∙ lines-more (take k ss) (getD ss k [])
+
+-- ---- scripts
+module _ (g : Grammar) (w : List ℕ) where
+  length-scripts : length (scripts g w) ≡ howMany g w
+  unfolding scripts
+  length-scripts = length-map (readings g w) script
+
+  mapped : (l : List Tree) (k : ℕ) → k < length l → getD (map script l) k [] ≡ script (getD l k none)
+  mapped [] k h = absurd (not-suc-le-zero h)
+  mapped (t ∷ l) zero h = refl
+  mapped (t ∷ l) (suc k) h = mapped l k (omega arith)
+
+  module _ (k : ℕ) (h : k < howMany g w) where
+    script-at : getD (scripts g w) k [] ≡ script (getD (readings g w) k none)
+    unfolding scripts
+    script-at = mapped (readings g w) k h
+
+    -- the words of the script, in the room that it was written to the front of
+    pub line-of : (room r : List ℕ) (n : ℕ) → n ≡ scriptWords (length w)
+        → room ≡ script (getD (readings g w) k none) ++ r → line (take n room) ≡ line (getD (scripts g w) k [])
+    line-of room r n e f =
+        let z : length (script (getD (readings g w) k none)) ≡ n =
+        script-length g w 0 0 (length w) _ (readings-numbered g w .gives k h) ∙ ap scriptWords (sub-zero (length w)) ∙ sym e in
+        ap line (ap (take n) f ∙ take-at _ r n z ∙ sym script-at)
+
+  -- ---- after k lines
+  pub record Listed (before : List ℕ) (at k end : ℕ) (now : List ℕ) : Type 0 where
+    pub small : end ≤ at + k * lineBytes
+    pub text : take end now ≡ take at before ++ lines (take k (scripts g w))
+
+  pub listed-start : (before : List ℕ) (at : ℕ) → Listed before at 0 at before
+  unfolding lines
+  listed-start before at = record { small = omega arith; text = sym (append-nil (take at before)) }
+
+  pub listed-step : (before now after : List ℕ) (at k end r : ℕ) → k < howMany g w → Listed before at k end now → r ≤ end + lineBytes
+      → take r after ≡ take end now ++ line (getD (scripts g w) k []) → Listed before at (k + 1) r after
+  listed-step before now after at k end r h v l e = record {
+    small = let s = v .small in omega arith;
+    text = e ∙ rw (v .text, append-assoc) (ap (λ (x : List ℕ). take at before ++ x) (sym (lines-next (scripts g w) k (rw length-scripts h))));
+  }
+
+  -- fewer than a hundred are all
+  pub listed-all : (k : ℕ) → howMany g w ≤ k → k ≤ mostListed → take k (scripts g w) ≡ take mostListed (scripts g w)
+  listed-all k h l = take-all k (scripts g w) (rw length-scripts h) ∙ sym (take-all mostListed (scripts g w) (rw length-scripts (omega arith)))
+
+-- numbers below a held number are below the number and below the limit, and so is what is not reached
+pub below-held : (k t m : ℕ) → t ≡ held m → k < t → (k < limit) × (k < m)
+below-held k t m e h = (omega arith, omega arith)
+
+pub past-held : (k t m : ℕ) → t ≡ held m → k < limit → t ≤ k → m ≤ k
+past-held k t m e l h = omega arith
+
+-- ---- one outcome only
+pub listing-only : (b e o u : List ℕ) → ListingIs b e o → ListingIs b e u → o ≡ u
+listing-only b e o u p q = go (ℕ-discrete (p .number) 0)
+  where
+    s : p .number ≡ q .number
+    s = first-only (p .first) (q .first)
+
+    go : Dec (p .number ≡ 0) → o ≡ u
+    go (yes z) = p .listed z ∙ sym (q .listed (sym s ∙ z))
+    go (no z) = p .refused z ∙ ap refusedLine s ∙ sym (q .refused (λ f. z (s ∙ f)))

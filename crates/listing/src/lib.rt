@@ -1,0 +1,78 @@
+// What the program writes, as bytes: a refusal, or how many readings a record has and the first of them.
+mod refuse; // the refusals
+mod lines; // a line for each script
+
+ghost use mathlib.Core.Path.{_≡_};
+ghost use mathlib.Core.List.{_++_};
+ghost use Prim.Native.Nat.{_+_, _≤_, _<_};
+ghost use lib.ListN.{length, take};
+ghost use Rattle.derivation.specs.Derivations.{scripts};
+ghost use Rattle.layout.specs.Layout.{decode};
+ghost use Rattle.image.specs.Image.{Accepted, mostEvents};
+ghost use Rattle.table.specs.Table.{held, tableWords};
+ghost use Rattle.readings.specs.Count.{howMany};
+ghost use Rattle.listing.specs.Listing.{mostWords, mostBytes, refusedLine, orMore, heading, listing, Written};
+
+// So many bytes hold any listing.
+pub const MOST_BYTES: usize = 152564;
+
+fn write_refused(out: &mut [u8], number: u8) -> usize
+    requires { ⌜ 64 ≤ length (now out) ⌝ }
+    ensures { λ r. ⌜ (r ≤ length (now (out .exit))) × (take r (now (out .exit)) ≡ refusedLine number) ⌝ }
+{
+    let behind = text::put_bytes(out, 0, b"refused ");
+    let end = text::put_number(out, behind, number as u32);
+    text::put_byte(out, end, b'\n')
+}
+
+fn put_or_more(out: &mut [u8], at: usize, total: u32) -> usize
+    requires { ⌜ at + 8 ≤ length (now out) ⌝ }
+    ensures { λ r. ⌜ (r ≤ at + 8) × (take r (now (out .exit)) ≡ take at (now (out .entry)) ++ orMore total) ⌝ }
+{
+    if total == table::LIMIT {
+        return text::put_bytes(out, at, b" or more");
+    }
+    at
+}
+
+fn write_heading(out: &mut [u8], total: u32) -> usize
+    requires { ⌜ 64 ≤ length (now out) ⌝ }
+    ensures { λ r. ⌜ (r ≤ 28) × (take r (now (out .exit)) ≡ heading total) ⌝ }
+{
+    let behind = text::put_bytes(out, 0, b"readings ");
+    let number = text::put_number(out, behind, total);
+    let end = put_or_more(out, number, total);
+    text::put_byte(out, end, b'\n')
+}
+
+// The listing of an accepted image and a record that is not refused.
+fn write_readings(image: &[u8], events: &[u16], out: &mut [u8]) -> usize
+    requires { ⌜ Accepted (now image) ⌝ }
+    requires { ⌜ (length (now events) ≤ mostEvents) × (tableWords (decode (now image) .symbols) (length (now events)) ≤ mostWords) ⌝ }
+    requires { ⌜ mostBytes ≤ length (now out) ⌝ }
+    ensures { λ r. ⌜ (r ≤ length (now (out .exit))) × (take r (now (out .exit)) ≡ listing (decode (now (image .entry))) (now (events .entry))) ⌝ }
+{
+    let n = events.len();
+    let mut table = [0u32; 16384];
+    table::fill_table(image, events, &mut table);
+    let symbols = layout::symbol_count(image);
+    let total = table::total_in(&table, symbols, n);
+    let end = write_heading(out, total);
+    lines::write_lines(image, events, &table, total, out, end)
+}
+
+// Writes the listing for the bytes of a grammar file and of an event file; answers how many bytes.
+pub fn write_listing(image: &[u8], events: &[u8], out: &mut [u8]) -> usize
+    ensures { λ r. ⌜ Written (now (image .entry)) (now (events .entry)) (now (out .entry)) r (now (out .exit)) ⌝ }
+{
+    if out.len() < MOST_BYTES {
+        return 0;
+    }
+    let number = refuse::program_refusal(image, events);
+    if number != 0 {
+        return write_refused(out, number);
+    }
+    let mut room = [0u16; 64];
+    let n = text::read_words(events, &mut room);
+    write_readings(image, &room[..n], out)
+}
