@@ -1,11 +1,12 @@
 SHELL := bash
 .SHELLFLAGS := -o pipefail -c
-.PHONY: example test bench compare soak clean
+.PHONY: run test bench compare soak clean
 
-# Proves and builds the program that runs the services on lines of text, and runs it on a few.
-example:
-	@rt check vectors | grep '^rt:'
-	@tools/run vectors <examples/lines.txt
+# Proves and builds the program, and lists the readings of two example records (examples/README.md).
+run:
+	@rt check lister | grep '^rt:'
+	tools/run lister examples/stop.grammar examples/two-stops.events
+	tools/run lister examples/chain.grammar examples/four.events
 
 # Every check there is; ends with 'N passed, M failed', and with status 0 exactly when all passed.
 test:
@@ -18,9 +19,10 @@ clean:
 bench:
 	@tools/bench
 
-# Compares the services with the second implementation in random cases: 20,000, as `make test` does, or a million.
+# Compares the services with the second implementation in random cases: 20,000, as `make test` does, or a million. And the listings.
 compare:
 	@tools/compare 20000
+	@tools/compare-listing
 
 soak:
 	@tools/compare --seed $$(date +%s) 1000000

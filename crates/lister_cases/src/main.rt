@@ -1,0 +1,71 @@
+// The program on pairs of files in `data`.
+
+// 01's example and others: an empty record, more than a hundred readings, more than can be counted.
+fn accepted() {
+    shell::list(b"chain", b"three");
+    shell::list(b"stop", b"stops");
+    shell::list(b"chain", b"none");
+    shell::list(b"chain", b"one");
+    shell::list(b"chain", b"nine");
+    shell::list(b"chain", b"twenty-one");
+    shell::list(b"chain", b"sixty-four");
+}
+
+// Each refusal of an image.
+fn images() {
+    shell::list(b"short", b"three");
+    shell::list(b"mark", b"three");
+    shell::list(b"version", b"three");
+    shell::list(b"range", b"three");
+    shell::list(b"long", b"three");
+    shell::list(b"symbol", b"three");
+    shell::list(b"twice", b"three");
+}
+
+// Each refusal of a record, and what is just accepted.
+fn records() {
+    shell::list(b"chain", b"over");
+    shell::list(b"chain", b"sixty-five");
+    shell::list(b"chain", b"odd");
+    shell::list(b"chain", b"odd127");
+    shell::list(b"full64", b"twenty-two");
+    shell::list(b"full64", b"twenty-three");
+}
+
+// Two refusals at once, and longer files, endless ones too.
+fn both() {
+    shell::list(b"short", b"odd");
+    shell::list(b"twice", b"over");
+    shell::list(b"wide", b"odd127");
+    shell::list(b"wide", b"sixty-four");
+    shell::list(b"overlong", b"three");
+    shell::list(b"/dev/zero", b"three");
+    shell::list(b"chain", b"/dev/zero");
+}
+
+// A file that is missing, or has no name.
+fn missing() {
+    shell::list(b"absent", b"three");
+    shell::list(b"chain", b"absent");
+    shell::list(b"absent", b"absent");
+    shell::list(b"", b"three");
+    shell::list(b"chain", b"");
+}
+
+// A folder, and a file that may not be read.
+fn unreadable() {
+    shell::list(b".", b"three");
+    shell::list(b"chain", b".");
+    shell::list(b"mark", b".");
+    shell::list(b"/etc/shadow", b"three");
+    shell::list(b"chain", b"/etc/shadow");
+}
+
+fn main() {
+    accepted();
+    images();
+    records();
+    both();
+    missing();
+    unreadable();
+}

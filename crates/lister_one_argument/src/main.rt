@@ -1,0 +1,4 @@
+// The program with one argument.
+fn main() {
+    shell::run();
+}

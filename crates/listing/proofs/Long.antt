@@ -1,0 +1,83 @@
+-- Files longer than any that is listed: their first bytes decide, so that a program need read no more than 2,315 of a grammar file and
+-- 129 of an event file.
+-- Assumes nothing.
+use mathlib.Core.Path.{_≡_, refl, sym, _∙_, subst}
+use mathlib.Core.Logic.{_⊎_, inl, inr, _≢_, ⊎-elim}
+use mathlib.Core.List.{List, [], _∷_, _++_}
+use Prim.Native.Nat.{ℕ, _+_, _≤_, _<_}
+use native.Mathlib.Omega.{arith}
+use lib.ListN.{length, take}
+use lib.Seq.{getD-take, length-take-le, take-all}
+use Rattle.image.specs.Refusal.{Row, _unless_, FirstOf, First}
+use Rattle.image.specs.Image.{imageRows, longestImage}
+use Rattle.image.proofs.Refusals.{AllHold, first-hit}
+use Rattle.image.proofs.Images.{all-hold, holding, accepted-short}
+use Rattle.image.proofs.Long.{begins-alike}
+use Rattle.table.proofs.Capped.{lt-or-ge}
+use Rattle.listing.specs.Listing.{mostEventBytes, fileRows, programRows, ListingIs}
+use Rattle.listing.proofs.Refuses.{passed}
+
+-- a table that does not hold decides alone
+alone : (rows more : List Row) (n : ℕ) → (AllHold rows → ⊥) → FirstOf (rows ++ more) n → FirstOf rows n
+alone [] more n h p = absurd (h tt)
+alone ((k unless P) ∷ rows) more n h (inl p) = inl p
+alone ((k unless P) ∷ rows) more n h (inr p) = inr (p .0, alone rows more n (λ a. h (p .0, a)) (p .1))
+
+-- behind the same rows
+behind : (rows more rest : List Row) (n : ℕ) → (FirstOf more n → FirstOf rest n) → FirstOf (rows ++ more) n → FirstOf (rows ++ rest) n
+behind [] more rest n f p = f p
+behind ((k unless P) ∷ rows) more rest n f (inl p) = inl p
+behind ((k unless P) ∷ rows) more rest n f (inr p) = inr (p .0, behind rows more rest n f (p .1))
+
+module _ (b e o : List ℕ) where
+  -- the first bytes
+  abbrev d : List ℕ
+  d = take (longestImage + 1) b
+
+  abbrev f : List ℕ
+  f = take (mostEventBytes + 1) e
+
+  long-image : longestImage < length b → ListingIs d e o → ListingIs b e o
+  long-image l p = record {
+    number = p .number;
+    first = first-hit (imageRows b) (fileRows b e) some (begins-alike d b (p .number) (omega (arith, size)) l (λ k h. getD-take (longestImage + 1) b k 0 (omega arith)) own);
+    refused = p .refused;
+    listed = λ z. absurd (some z);
+  }
+    where
+      size : length d ≡ longestImage + 1
+      size = length-take-le (longestImage + 1) b (omega arith)
+
+      bad : AllHold (imageRows d) → ⊥
+      bad h = omega (arith, accepted-short d (holding d h), size)
+
+      own : First (imageRows d) (p .number)
+      own = record { is = alone (imageRows d) (fileRows d e) (p .number) bad (p .first .is) }
+
+      some : p .number ≢ 0
+      some z = bad (all-hold (imageRows d) (omega arith) (p .number) z own)
+
+  long-events : mostEventBytes < length e → ListingIs b f o → ListingIs b e o
+  long-events l p = record {
+    number = p .number;
+    first = record { is = behind (imageRows b) (fileRows b f) (fileRows b e) (p .number) (⊎-elim (λ x. inl (λ h. omega arith, x .1)) (λ x. absurd (omega (arith, x .0, size)))) (p .first .is) };
+    refused = p .refused;
+    listed = λ z. absurd (omega (arith, passed b f (p .number) z (p .first) .bytes, size));
+  }
+    where
+      size : length f ≡ mostEventBytes + 1
+      size = length-take-le (mostEventBytes + 1) e (omega arith)
+
+-- what is listed of the first bytes is what is listed of all
+pub first-bytes : (b e o : List ℕ) → ListingIs (take (longestImage + 1) b) (take (mostEventBytes + 1) e) o → ListingIs b e o
+first-bytes b e o p = events (lt-or-ge mostEventBytes (length e))
+  where
+    image : ListingIs b (take (mostEventBytes + 1) e) o
+    image =
+        ⊎-elim (λ (l : longestImage < length b). long-image b (take (mostEventBytes + 1) e) o l p)
+        (λ (l : length b ≤ longestImage). subst (λ (x : List ℕ). ListingIs x (take (mostEventBytes + 1) e) o) (take-all (longestImage + 1) b (omega arith)) p)
+        (lt-or-ge longestImage (length b))
+
+    events : (mostEventBytes < length e) ⊎ (length e ≤ mostEventBytes) → ListingIs b e o
+    events (inl l) = long-events b e o l image
+    events (inr l) = subst (λ (x : List ℕ). ListingIs b x o) (take-all (mostEventBytes + 1) e (omega arith)) image
