@@ -3,7 +3,6 @@ ghost use mathlib.Core.Path.{_≡_};
 ghost use Prim.Native.Nat.{_+_, _-_, _≤_, _<_};
 ghost use lib.ListN.{length};
 ghost use Rattle.bits.specs.Truth.{Decides};
-ghost use Rattle.derivation.specs.Grammar.{leafCount};
 ghost use Rattle.derivation.specs.Tree.{LeafOk, NodeOk, scriptWords, Spells, IsReading};
 ghost use Rattle.layout.specs.Layout.{decode};
 ghost use Rattle.image.specs.Image.{Accepted};

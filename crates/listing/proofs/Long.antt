@@ -1,7 +1,7 @@
 -- Files longer than any that is listed: their first bytes decide, so that a program need read no more than 2,315 of a grammar file and
 -- 129 of an event file.
 -- Assumes nothing.
-use mathlib.Core.Path.{_≡_, refl, sym, _∙_, subst}
+use mathlib.Core.Path.{_≡_, subst}
 use mathlib.Core.Logic.{_⊎_, inl, inr, _≢_, ⊎-elim}
 use mathlib.Core.List.{List, [], _∷_, _++_}
 use Prim.Native.Nat.{ℕ, _+_, _≤_, _<_}
@@ -14,7 +14,7 @@ use Rattle.image.proofs.Refusals.{AllHold, first-hit}
 use Rattle.image.proofs.Images.{all-hold, holding, accepted-short}
 use Rattle.image.proofs.Long.{begins-alike}
 use Rattle.table.proofs.Capped.{lt-or-ge}
-use Rattle.listing.specs.Listing.{mostEventBytes, fileRows, programRows, ListingIs}
+use Rattle.listing.specs.Listing.{mostEventBytes, fileRows, ListingIs}
 use Rattle.listing.proofs.Refuses.{passed}
 
 -- a table that does not hold decides alone

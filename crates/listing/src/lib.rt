@@ -6,11 +6,9 @@ ghost use mathlib.Core.Path.{_≡_};
 ghost use mathlib.Core.List.{_++_};
 ghost use Prim.Native.Nat.{_+_, _≤_, _<_};
 ghost use lib.ListN.{length, take};
-ghost use Rattle.derivation.specs.Derivations.{scripts};
 ghost use Rattle.layout.specs.Layout.{decode};
 ghost use Rattle.image.specs.Image.{Accepted, mostEvents};
-ghost use Rattle.table.specs.Table.{held, tableWords};
-ghost use Rattle.readings.specs.Count.{howMany};
+ghost use Rattle.table.specs.Table.{tableWords};
 ghost use Rattle.listing.specs.Listing.{mostWords, mostBytes, refusedLine, orMore, heading, listing, Written};
 
 // So many bytes hold any listing.

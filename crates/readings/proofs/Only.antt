@@ -1,11 +1,10 @@
 -- Each service's contract admits one outcome only: the answer and every lent word.
 -- Assumes nothing.
 use mathlib.Core.Path.{_≡_, refl, sym, _∙_, subst}
-use mathlib.Core.Logic.{_⊎_, inl, inr, _≢_, ⊎-elim}
+use mathlib.Core.Logic.{_⊎_, inl, inr, ⊎-elim}
 use mathlib.Core.List.{List}
 use Prim.Native.Nat.{ℕ, _<_}
 use native.Mathlib.Decide.{ℕ-discrete}
-use lib.ListN.{length}
 use Rattle.bits.proofs.Truths.{decides-only}
 use Rattle.derivation.specs.Tree.{IsReading}
 use Rattle.layout.specs.Layout.{decode}

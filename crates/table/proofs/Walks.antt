@@ -1,6 +1,6 @@
 -- One split after the other: where the two parts' words stand, and the sum so far.
 -- Assumes nothing.
-use mathlib.Core.Path.{_≡_, refl, sym, ap, _∙_}
+use mathlib.Core.Path.{_≡_, sym, ap, _∙_}
 use mathlib.Core.List.{List}
 use Prim.Native.Nat.{ℕ, _+_, _-_, _*_, _≤_, _<_}
 use native.Mathlib.Nat.{le-refl, le-of-lt, mul-le-mul, le-trans, lt-of-lt-of-le}

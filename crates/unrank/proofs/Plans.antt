@@ -30,7 +30,6 @@ use Rattle.table.proofs.Held.{exact, below, held-between}
 use Rattle.table.proofs.Cells.{leaf-adds, leaf-other, leaf-skips, pair-adds, pair-other}
 use Rattle.table.proofs.Adds.{leaf-counted, Ready, split-counted, pairs-counted, all-counted}
 use Rattle.unrank.specs.declared.choose.Choice.{Choice}
-use Rattle.unrank.specs.declared.choose.Plan.{Plan}
 use Rattle.unrank.specs.Choice.{InSplit, Falls, Chosen, ChosenLeaf, Planned}
 
 -- ---- over one event

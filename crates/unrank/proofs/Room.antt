@@ -89,9 +89,6 @@ module _ (g : Grammar) (w : List ℕ) (A i k n : ℕ) (q : Plan) (p : Planned g 
   first-words : length first ≡ scriptWords (j - i)
   first-words = script-words g w (q .left) i j (q .first) (p .left-some)
 
-  second-words : length second ≡ scriptWords (k - j)
-  second-words = script-words g w (q .right) j k (q .second) (p .right-some)
-
   whole : scriptWords (k - i) ≡ 2 + (scriptWords (j - i) + scriptWords (k - j))
   whole = omega (arith, p .after, p .before)
 

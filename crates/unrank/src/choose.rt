@@ -1,5 +1,4 @@
 // In whose share a number falls: the rules in their order, and for a pair rule its splits in theirs.
-ghost use mathlib.Core.Path.{_≡_};
 ghost use Prim.Native.Nat.{_+_, _≤_, _<_};
 ghost use lib.ListN.{length};
 ghost use Rattle.bits.specs.Sum.{sum};

@@ -1,6 +1,5 @@
 -- Each piece stands behind the one before, and all of them are short.
 -- Assumes nothing.
-use mathlib.Core.Path.{refl}
 use native.Mathlib.Omega.{arith}
 use Rattle.listing.proofs.Lists.{refused-text}
 use borrow.Author.Needs.{needs}

@@ -1,13 +1,9 @@
 -- The rows of an image, and then those of the files.
 -- Assumes nothing.
-use mathlib.Core.Path.{_≡_}
-use Prim.Native.Nat.{_/_}
 use native.Mathlib.Omega.{arith}
-use lib.ListN.{length}
 use Rattle.image.specs.Image.{imageRows}
 use Rattle.image.proofs.Refusals.{none, fail, pass}
 use Rattle.image.proofs.Images.{tested-accepted, refused-first, accepted-first}
-use Rattle.text.specs.Text.{words}
 use Rattle.text.proofs.Pairs.{length-words}
 use Rattle.listing.specs.Listing.{fileRows}
 use borrow.Author.Needs.{needs}

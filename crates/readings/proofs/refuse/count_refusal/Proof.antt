@@ -1,7 +1,6 @@
 -- The rows of an image and a record, and then that of the table.
 -- Assumes nothing.
 use native.Mathlib.Omega.{arith}
-use mathlib.Core.Path.{_∙_}
 use Rattle.image.specs.Image.{recordRows}
 use Rattle.image.proofs.Refusals.{none, fail, pass}
 use Rattle.image.proofs.Images.{record-accepted, refused-first, accepted-first}

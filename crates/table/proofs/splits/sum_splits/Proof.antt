@@ -1,6 +1,6 @@
 -- The invariant: the words of the two parts stand where the next split has them, and the sum is that of the splits passed.
 -- Assumes nothing.
-use mathlib.Core.Path.{_≡_, refl, ap, _∙_}
+use mathlib.Core.Path.{refl, ap, _∙_}
 use Prim.Native.Nat.{_-_}
 use native.Mathlib.Omega.{arith}
 use Rattle.table.specs.Table.{held}

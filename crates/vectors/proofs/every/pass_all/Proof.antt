@@ -1,7 +1,6 @@
 -- The invariant: no more scripts passed than were written.
 -- Assumes nothing.
 use Prim.Native.Nat.{_-_, _≤_, _<_}
-use native.Mathlib.Omega.{arith}
 use borrow.Author.Needs.{needs}
 use Rattle.vectors.proofs.every.pass_all.Statement.{statement}
 use Rattle.vectors.proofs.every.pass_all.Tie as tie
