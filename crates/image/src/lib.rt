@@ -10,6 +10,10 @@ ghost use Rattle.image.specs.Image.{imageRows, recordRows, Gives, GivesC
 // The most events that a record may have.
 pub const MOST_EVENTS: usize = 64;
 
+// The bytes of the longest image that is accepted.
+pub const LONGEST_IMAGE: usize = layout::HEADER_BYTES
+    + 3 * (refuse::MOST_LEAVES + refuse::MOST_PAIRS);
+
 // What a test answers: a refusal's number with zeros, or 0 with N, L and B.
 pub struct Tested {
     pub number: u8,

@@ -9,9 +9,9 @@ ghost use Rattle.image.specs.Image.{Marked, Versioned, Ranged, byteRows,
 
 const MOST_SYMBOLS: usize = 64;
 
-const MOST_LEAVES: usize = 512;
+pub const MOST_LEAVES: usize = 512;
 
-const MOST_PAIRS: usize = 256;
+pub const MOST_PAIRS: usize = 256;
 
 fn marked(image: &[u8]) -> bool
     requires { ⌜ headerBytes ≤ length (now image) ⌝ }

@@ -41,26 +41,23 @@ pub fn read_bytes(text: &[u8], image: &mut [u8]) -> usize
     count
 }
 
-// The 16-bit number of two bytes, low byte first.
-pub fn word(low: u8, high: u8) -> u16 {
-    low as u16 + 256 * (high as u16)
-}
-
-// The words that a text shows, two bytes each, at most 256 and as many as there is room for; answers how many.
-pub fn read_words(text: &[u8], words: &mut [u16]) -> usize
+// The words that a text shows, two bytes each, low byte first; none where there is no room for all of them. Answers how many.
+pub fn read_words(shown: &[u8], words: &mut [u16]) -> usize
     ensures { λ r. ⌜ r ≤ length (now (words .exit)) ⌝ }
 {
-    let mut bytes = [0u8; 512];
-    let count = read_bytes(text, &mut bytes);
-    let mut n = 0;
-    while n < count / 2 {
-        if words.len() <= n {
-            return n;
-        }
-        words[n] = word(bytes[2 * n], bytes[2 * n + 1]);
-        n += 1;
+    let mut bytes = [0u8; 1024];
+    let count = read_bytes(shown, &mut bytes);
+    if words.len() < (count + 1) / 2 {
+        return 0;
     }
-    n
+    text::read_words(&bytes[..count], words)
+}
+
+// A word as a size.
+pub fn size(word: u16) -> usize
+    ensures { λ r. ⌜ r < 65536 ⌝ }
+{
+    word as usize
 }
 
 // Writes a number behind a space.

@@ -11,8 +11,16 @@ ghost use Rattle.image.specs.Image.{Accepted, mostEvents};
 ghost use Rattle.table.specs.Table.{tableWords};
 ghost use Rattle.listing.specs.Listing.{mostWords, mostBytes, refusedLine, orMore, heading, listing, Written};
 
-// So many bytes hold any listing.
-pub const MOST_BYTES: usize = 152564;
+// The words of the longest script.
+const SCRIPT_WORDS: usize = 2 * (2 * image::MOST_EVENTS - 1);
+
+// So many bytes hold any listing: a heading, and a hundred lines with at most five digits and a byte behind them for each word.
+pub const MOST_BYTES: usize = 64 + 100 * (6 * SCRIPT_WORDS + 1);
+
+// So many bytes of a grammar file and of an event file decide: one more than the longest that is not refused for its length.
+pub const IMAGE_BYTES: usize = image::LONGEST_IMAGE + 1;
+
+pub const EVENT_BYTES: usize = 2 * image::MOST_EVENTS + 1;
 
 fn write_refused(out: &mut [u8], number: u8) -> usize
     requires { ⌜ 64 ≤ length (now out) ⌝ }
@@ -70,7 +78,7 @@ pub fn write_listing(image: &[u8], events: &[u8], out: &mut [u8]) -> usize
     if number != 0 {
         return write_refused(out, number);
     }
-    let mut room = [0u16; 64];
+    let mut room = [0u16; image::MOST_EVENTS];
     let n = text::read_words(events, &mut room);
     write_readings(image, &room[..n], out)
 }

@@ -30,7 +30,7 @@ fn write_line(
 {
     let n = events.len();
     let words = 4 * n - 2;
-    let mut room = [0u16; 254];
+    let mut room = [0u16; super::SCRIPT_WORDS];
     unrank::write_script(image, events, table, 0, 0, n, k, &mut room);
     text::put_line(out, at, &room[..words])
 }

@@ -52,15 +52,15 @@ fn say_no_file() {
 
 // Writes the listing for the bytes of the two files.
 fn show(image: &[u8], events: &[u8]) {
-    let mut out = [0u8; 152564];
+    let mut out = [0u8; listing::MOST_BYTES];
     let n = listing::write_listing(image, events, &mut out);
     io::write_all(STDOUT_FILENO, &out[..n]);
 }
 
-// Of a longer file the bytes read decide already: an image is at most 2,314 bytes long, and an event file at most 128.
+// Of a longer file the bytes read decide already.
 fn with_files(image_fd: i32, event_fd: i32) {
-    let mut image = [0u8; 2315];
-    let mut events = [0u8; 129];
+    let mut image = [0u8; listing::IMAGE_BYTES];
+    let mut events = [0u8; listing::EVENT_BYTES];
     let a = load(image_fd, &mut image);
     let b = load(event_fd, &mut events);
     if !a.ok {

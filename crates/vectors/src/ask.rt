@@ -1,13 +1,14 @@
 // One number: behind the events the length of the lent table and of the lent room, two bytes each, and a number k of four bytes; and
 // behind a semicolon the words of a script, two bytes each. Written are the answers of count, reading and check, and behind those of count
 // and of reading the lent words as they are afterwards.
+use super::ROOM;
+use super::WORDS;
 use super::digest::write_counts;
 use super::digest::write_script;
 use lines::find;
-use lines::read_bytes;
 use lines::read_words;
+use lines::size;
 use lines::value;
-use lines::word;
 
 fn count(image: &[u8], events: &[u16], table: &mut [u32]) {
     let counted = readings::count(image, events, table);
@@ -17,8 +18,8 @@ fn count(image: &[u8], events: &[u16], table: &mut [u32]) {
 }
 
 fn lend_to_count(image: &[u8], events: &[u16], size: usize) {
-    let mut table = [77u32; 2304];
-    if 2304 < size {
+    let mut table = [77u32; WORDS];
+    if WORDS < size {
         return;
     }
     count(image, events, &mut table[..size]);
@@ -32,19 +33,19 @@ fn reading(image: &[u8], events: &[u16], k: u32, table: &mut [u32], room: &mut [
 }
 
 fn lend_to_reading(image: &[u8], events: &[u16], k: u32, size: usize, space: usize) {
-    let mut table = [77u32; 2304];
-    let mut room = [99u16; 300];
-    if 2304 < size {
+    let mut table = [77u32; WORDS];
+    let mut room = [99u16; ROOM];
+    if WORDS < size {
         return;
     }
-    if 300 < space {
+    if ROOM < space {
         return;
     }
     reading(image, events, k, &mut table[..size], &mut room[..space]);
 }
 
 fn check(image: &[u8], events: &[u16], text: &[u8]) {
-    let mut script = [0u16; 256];
+    let mut script = [0u16; ROOM];
     let n = read_words(text, &mut script);
     let checked = readings::check(image, events, &script[..n]);
     value(checked.number as u64);
@@ -53,14 +54,14 @@ fn check(image: &[u8], events: &[u16], text: &[u8]) {
 
 // The text is what follows the events.
 pub fn run(image: &[u8], events: &[u16], text: &[u8]) {
-    let mut head = [0u8; 8];
+    let mut head = [0u16; 4];
     let end = find(text, 0, b';');
-    read_bytes(&text[..end], &mut head);
-    let size = word(head[0], head[1]) as usize;
-    let space = word(head[2], head[3]) as usize;
-    let k = word(head[4], head[5]) as u32 + 65536 * (word(head[6], head[7]) as u32);
-    lend_to_count(image, events, size);
-    lend_to_reading(image, events, k, size, space);
+    read_words(&text[..end], &mut head);
+    let words = size(head[0]);
+    let space = size(head[1]);
+    let k = size(head[2]) + 65536 * size(head[3]);
+    lend_to_count(image, events, words);
+    lend_to_reading(image, events, k as u32, words, space);
     if end == text.len() {
         return;
     }

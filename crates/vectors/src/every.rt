@@ -1,8 +1,11 @@
-// Every number of a record of 1 to 64 events: written are how many readings there are, how many of the scripts pass the check, a number
+// Every number of a record that is neither empty nor too long: written are how many readings there are, how many of the scripts pass the check, a number
 // made of all their words, and the refusal of the number past the last.
+use super::ROOM;
+use super::WORDS;
 use super::digest::mix_script;
 use lines::value;
-ghost use Prim.Native.Nat.{_+_, _≤_, _<_};
+ghost use Prim.Native.Nat.{_+_, _*_, _≤_, _<_};
+ghost use Rattle.image.specs.Image.{mostEvents};
 
 // How many scripts passed the check, and the number made of all their words.
 pub struct Passed {
@@ -11,18 +14,18 @@ pub struct Passed {
 }
 
 fn count(image: &[u8], events: &[u16]) -> u32 {
-    let mut table = [0u32; 2304];
+    let mut table = [0u32; WORDS];
     let counted = readings::count(image, events, &mut table);
     counted.total
 }
 
 // One number more: its script has so many words.
 fn pass(image: &[u8], events: &[u16], words: usize, k: u32, was: Passed) -> Passed
-    requires { ⌜ (words ≤ 256) × (was .yes < 4294967296) × (was .sum < 4294967296) ⌝ }
+    requires { ⌜ (words ≤ 4 * mostEvents) × (was .yes < 4294967296) × (was .sum < 4294967296) ⌝ }
     ensures { λ r. ⌜ (r .yes ≤ was .yes + 1) × (r .sum < 4294967296) ⌝ }
 {
-    let mut table = [0u32; 2304];
-    let mut room = [0u16; 256];
+    let mut table = [0u32; WORDS];
+    let mut room = [0u16; ROOM];
     readings::reading(image, events, k, &mut table, &mut room);
     let checked = readings::check(image, events, &room[..words]);
     let sum = mix_script(&room[..words], was.sum);
@@ -34,14 +37,14 @@ fn pass(image: &[u8], events: &[u16], words: usize, k: u32, was: Passed) -> Pass
 }
 
 fn refusal(image: &[u8], events: &[u16], k: u32) -> u8 {
-    let mut table = [0u32; 2304];
-    let mut room = [0u16; 256];
+    let mut table = [0u32; WORDS];
+    let mut room = [0u16; ROOM];
     let read = readings::reading(image, events, k, &mut table, &mut room);
     read.number
 }
 
 fn pass_all(image: &[u8], events: &[u16], words: usize, total: u32) -> Passed
-    requires { ⌜ words ≤ 256 ⌝ }
+    requires { ⌜ words ≤ 4 * mostEvents ⌝ }
 {
     let mut passed = Passed { yes: 0, sum: 0 };
     for k in 0..total {
@@ -52,7 +55,7 @@ fn pass_all(image: &[u8], events: &[u16], words: usize, total: u32) -> Passed
 
 pub fn run(image: &[u8], events: &[u16]) {
     let n = events.len();
-    if 64 < n {
+    if image::MOST_EVENTS < n {
         return;
     }
     if n == 0 {

@@ -1,38 +1,39 @@
-// A line that judges a record: behind the image its events, two bytes each, and a byte for each word of the lent chart as it is before.
-// Written are the number, the verdict, the items, the firings, and every word of the chart as it is afterwards.
+// A line that judges a record: behind the image its events, two bytes each, and behind a semicolon the length of the lent chart, two bytes,
+// each word of which is 165 before. Written are the number, the verdict, the items, the firings, and the words of the chart afterwards, each
+// with a star and how many times it stands there in a row.
+use super::WORDS;
+use libc::STDOUT_FILENO;
 use lines::find;
-use lines::read_bytes;
 use lines::read_words;
+use lines::size;
 use lines::value;
 ghost use Prim.Native.Nat.{_≤_, _<_};
 ghost use lib.ListN.{length};
 
-fn wide(byte: u8) -> u16
-    ensures { λ r. ⌜ r < 256 ⌝ }
+// The end of the words that are equal to the one at `from`, from there on.
+fn row_end(words: &[u64], from: usize) -> usize
+    requires { ⌜ from < length (now words) ⌝ }
+    ensures { λ r. ⌜ (from < r) × (r ≤ length (now (words .entry))) ⌝ }
 {
-    byte as u16
-}
-
-// Words, a byte each.
-fn read_chart(text: &[u8], words: &mut [u64]) -> usize
-    ensures { λ r. ⌜ r ≤ length (now (words .exit)) ⌝ }
-{
-    let mut bytes = [0u8; 2304];
-    let count = read_bytes(text, &mut bytes);
-    let mut n = 0;
-    while n < count {
-        if words.len() <= n {
-            return n;
+    let word = words[from];
+    let mut at = from + 1;
+    while at < words.len() {
+        if words[at] != word {
+            return at;
         }
-        words[n] = wide(bytes[n]) as u64;
-        n += 1;
+        at += 1;
     }
-    n
+    at
 }
 
-fn values(words: &[u64]) {
-    for x in 0..words.len() {
-        value(words[x]);
+fn rows(words: &[u64]) {
+    let mut at = 0;
+    while at < words.len() {
+        let end = row_end(words, at);
+        value(words[at]);
+        io::write_all(STDOUT_FILENO, b"*");
+        io::print_decimal(STDOUT_FILENO, (end - at) as u64);
+        at = end;
     }
 }
 
@@ -42,19 +43,24 @@ fn answer(image: &[u8], events: &[u16], chart: &mut [u64]) {
     value(judged.admitted as u64);
     value(judged.items);
     value(judged.firings);
-    values(chart);
+    rows(chart);
 }
 
 // The text is what follows the image.
 pub fn run(image: &[u8], text: &[u8]) {
     let mut events = [0u16; 128];
-    let mut chart = [0u64; 2304];
     let end = find(text, 0, b';');
     let n = read_words(&text[..end], &mut events);
     if end == text.len() {
         return;
     }
     let behind = end + 1;
-    let size = read_chart(&text[behind..], &mut chart);
-    answer(image, &events[..n], &mut chart[..size]);
+    let mut head = [0u16; 1];
+    read_words(&text[behind..], &mut head);
+    let count = size(head[0]);
+    let mut chart = [165u64; WORDS];
+    if WORDS < count {
+        return;
+    }
+    answer(image, &events[..n], &mut chart[..count]);
 }

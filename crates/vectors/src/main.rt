@@ -17,6 +17,11 @@ use lines::value;
 ghost use Prim.Native.Nat.{_<_};
 ghost use lib.ListN.{length};
 
+// The most words that are lent as a chart or a count table, and as a script: those of the longest record and one symbol, and some more.
+pub const WORDS: usize = image::MOST_EVENTS * (image::MOST_EVENTS + 1) / 2 + 224;
+
+pub const ROOM: usize = 4 * image::MOST_EVENTS + 44;
+
 fn test(image: &[u8]) {
     let t = image::test_image(image);
     value(t.number as u64);

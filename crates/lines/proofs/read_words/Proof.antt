@@ -1,94 +1,59 @@
--- The invariant: the room keeps its length, and no more was read than it and the text hold.
+-- As many bytes are passed on as were read, and the room that was found large enough keeps its length.
 -- Assumes nothing.
-use mathlib.Core.Path.{_≡_}
-use Prim.Native.Nat.{_≤_, _-_, _/_}
+use mathlib.Core.Path.{_≡_, sym}
+use mathlib.Core.List.{List}
+use Prim.Native.Nat.{ℕ, _+_, _*_, _/_, _≤_}
 use native.Mathlib.Omega.{arith}
-use lib.ListN.{length, length-set}
+use lib.ListN.{length, take}
+use lib.Seq.{length-take-le}
 use borrow.Author.Needs.{needs}
 use Rattle.lines.proofs.read_words.Statement.{statement}
 use Rattle.lines.proofs.read_words.Tie as tie
 
-abbrev Inv-loop : tie.InvT-loop
-Inv-loop text words₀ bytes count n₀ words n = (length words ≡ length words₀) × (n ≤ length words) × (n ≤ count / 2) × (count ≤ 512) × (length bytes ≡ 512)
+module _ (n m : ℕ) (bytes : List ℕ) (read : n ≤ length bytes) (room : (n + 1) / 2 ≤ m) where
+  fits : length (take n bytes) ≤ 2 * m
+  fits = omega (arith, length-take-le n bytes read, room)
 
-abbrev μ-loop : tie.MeasureT-loop
-μ-loop text words₀ bytes count n₀ words n = count / 2 - n
+  inside : (r : ℕ) → r ≡ length (take n bytes) / 2 → r ≤ m
+  inside r e = omega (arith, length-take-le n bytes read, room, e)
 
-slice-aggregate-read-bytes : tie.Need-slice-aggregate-read-bytes Inv-loop μ-loop
+slice-aggregate-read-bytes : tie.Need-slice-aggregate-read-bytes
 slice-aggregate-read-bytes c = search needs
 
-read-bytes-requires : tie.Need-read-bytes-requires Inv-loop μ-loop
+read-bytes-requires : tie.Need-read-bytes-requires
 read-bytes-requires c κs = search needs
 
-loop-holds : tie.Need-loop-holds Inv-loop μ-loop
-loop-holds c = search needs
+add-if1 : tie.Need-add-if1
+add-if1 c = search needs
 
-same-length : tie.Need-same-length Inv-loop μ-loop
-same-length c = search needs
-
-returns : tie.Need-returns Inv-loop μ-loop
+returns : tie.Need-returns
 returns c = search needs
 
-mul-word : tie.Need-mul-word Inv-loop μ-loop
-mul-word c = search needs
+array-share-prefix-bytes : tie.Need-array-share-prefix-bytes
+array-share-prefix-bytes c = search needs
 
-array-read-word : tie.Need-array-read-word Inv-loop μ-loop
-array-read-word c = search needs
+slice-aggregate-read-words : tie.Need-slice-aggregate-read-words
+slice-aggregate-read-words c = sym (length-take-le _ _ (c .before .before .before .read-bytes .ensures))
 
-mul-word-2 : tie.Need-mul-word-2 Inv-loop μ-loop
-mul-word-2 c = search needs
+read-words-requires : tie.Need-read-words-requires
+read-words-requires c κs = fits _ _ _ (c .before .before .before .before .read-bytes .ensures) (c .before .before .if1 .left)
 
-add-word : tie.Need-add-word Inv-loop μ-loop
-add-word c = search needs
+same-length : tie.Need-same-length
+same-length c = search needs
 
-array-read-word-2 : tie.Need-array-read-word-2 Inv-loop μ-loop
-array-read-word-2 c = search needs
-
-word-requires : tie.Need-word-requires Inv-loop μ-loop
-word-requires c κs = search needs
-
-mul-words : tie.Need-mul-words Inv-loop μ-loop
-mul-words c = search needs
-
-slice-write-words : tie.Need-slice-write-words Inv-loop μ-loop
-slice-write-words c = search needs
-
-add-n : tie.Need-add-n Inv-loop μ-loop
-add-n c = search needs
-
-loop-less : tie.Need-loop-less Inv-loop μ-loop
-loop-less c = search needs
-
-loop-again : tie.Need-loop-again Inv-loop μ-loop
-loop-again c = simp length-set (omega arith)
-
-same-length-2 : tie.Need-same-length-2 Inv-loop μ-loop
-same-length-2 c = search needs
-
-returns-2 : tie.Need-returns-2 Inv-loop μ-loop
-returns-2 c = search needs
+returns-2 : tie.Need-returns-2
+returns-2 c = let h = inside _ _ _ (c .before .before .before .before .before .before .before .read-bytes .ensures) (c .before .before .before .before .before .if1 .left) _ (c .before .before .read-words .ensures .0) in omega (arith, h)
 
 pub read-words-spec : {M : Type 1} → statement M
 read-words-spec =
     tie.close
     (tie.spec
-    Inv-loop
-    μ-loop
     slice-aggregate-read-bytes
     read-bytes-requires
-    loop-holds
-    same-length
+    add-if1
     returns
-    mul-word
-    array-read-word
-    mul-word-2
-    add-word
-    array-read-word-2
-    word-requires
-    mul-words
-    slice-write-words
-    add-n
-    loop-less
-    loop-again
-    same-length-2
+    array-share-prefix-bytes
+    slice-aggregate-read-words
+    read-words-requires
+    same-length
     returns-2)

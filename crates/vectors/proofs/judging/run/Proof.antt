@@ -24,38 +24,47 @@ returns c = search needs
 add-behind : tie.Need-add-behind
 add-behind c = search needs
 
-sub-read-chart : tie.Need-sub-read-chart
-sub-read-chart c = search needs
+sub-read-words : tie.Need-sub-read-words
+sub-read-words c = search needs
 
-part-read-chart-start : tie.Need-part-read-chart-start
-part-read-chart-start c = search needs
+part-read-words-start : tie.Need-part-read-words-start
+part-read-words-start c = search needs
 
-part-read-chart-end : tie.Need-part-read-chart-end
-part-read-chart-end c = search needs
+part-read-words-end : tie.Need-part-read-words-end
+part-read-words-end c = search needs
 
-slice-aggregate-read-chart : tie.Need-slice-aggregate-read-chart
-slice-aggregate-read-chart c = search needs
+slice-aggregate-read-words-3 : tie.Need-slice-aggregate-read-words-3
+slice-aggregate-read-words-3 c = search needs
 
-read-chart-requires : tie.Need-read-chart-requires
-read-chart-requires c κs = search needs
+read-words-requires-2 : tie.Need-read-words-requires-2
+read-words-requires-2 c κs = search needs
+
+array-read-size : tie.Need-array-read-size
+array-read-size c = search needs
+
+size-requires : tie.Need-size-requires
+size-requires c κs = search needs
+
+returns-2 : tie.Need-returns-2
+returns-2 c = search needs
 
 array-share-prefix-events : tie.Need-array-share-prefix-events
 array-share-prefix-events c = search needs
 
 slice-aggregate-answer : tie.Need-slice-aggregate-answer
-slice-aggregate-answer c = sym (length-take-le _ _ (c .before .before .before .before .before .before .before .read-words .ensures))
+slice-aggregate-answer c = sym (length-take-le _ _ (c .before .before .before .before .before .before .before .before .before .read-words .ensures))
 
 array-borrow-prefix-chart : tie.Need-array-borrow-prefix-chart
 array-borrow-prefix-chart c = search needs
 
 slice-aggregate-answer-2 : tie.Need-slice-aggregate-answer-2
-slice-aggregate-answer-2 c = sym (length-take-le _ _ (c .before .before .before .read-chart .ensures))
+slice-aggregate-answer-2 c = sym (length-take-le _ _ (search needs))
 
 answer-requires : tie.Need-answer-requires
 answer-requires c κs = search needs
 
-returns-2 : tie.Need-returns-2
-returns-2 c = search needs
+returns-3 : tie.Need-returns-3
+returns-3 c = search needs
 
 pub run-spec : {M : Type 1} → statement M
 run-spec =
@@ -67,14 +76,17 @@ run-spec =
     read-words-requires
     returns
     add-behind
-    sub-read-chart
-    part-read-chart-start
-    part-read-chart-end
-    slice-aggregate-read-chart
-    read-chart-requires
+    sub-read-words
+    part-read-words-start
+    part-read-words-end
+    slice-aggregate-read-words-3
+    read-words-requires-2
+    array-read-size
+    size-requires
+    returns-2
     array-share-prefix-events
     slice-aggregate-answer
     array-borrow-prefix-chart
     slice-aggregate-answer-2
     answer-requires
-    returns-2)
+    returns-3)
