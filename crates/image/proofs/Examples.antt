@@ -40,6 +40,6 @@ unfolding imageRefusal image-decided bytes-decided rules-decided decided-both an
 refusals = refl
 
 -- at the largest values
-pub most-firings : firingsBound mostEvents mostSymbols mostPairs ≡ 11186176
+pub most-firings : firingsBound mostEvents mostSymbols mostPairs ≡ 37750784
 unfolding firingsBound
 most-firings = refl

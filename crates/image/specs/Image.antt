@@ -29,7 +29,7 @@ Ranged b = InRange (symbolsIn b) (leavesIn b) (pairsIn b)
 
 -- the most events that a record may have
 abbrev pub mostEvents : ℕ
-mostEvents = 64
+mostEvents = 96
 
 -- ---- the rows, of the bytes, of the rules, and of the number of events
 abbrev pub byteRows : List ℕ → List Row

@@ -8,7 +8,7 @@ ghost use Rattle.layout.specs.Layout.{headerBytes, decode};
 ghost use Rattle.image.specs.Image.{imageRows, recordRows, Gives, GivesCounts, TestedIs};
 
 // The most events that a record may have.
-pub const MOST_EVENTS: usize = 64;
+pub const MOST_EVENTS: usize = 96;
 
 // The bytes of the longest image that is accepted.
 pub const LONGEST_IMAGE: usize = layout::HEADER_BYTES

@@ -8,7 +8,7 @@ fn accepted() {
     shell::list(b"chain", b"one");
     shell::list(b"chain", b"nine");
     shell::list(b"chain", b"twenty-one");
-    shell::list(b"chain", b"sixty-four");
+    shell::list(b"chain", b"ninety-six");
 }
 
 // Each refusal of an image.
@@ -25,19 +25,20 @@ fn images() {
 // Each refusal of a record, and what is just accepted.
 fn records() {
     shell::list(b"chain", b"over");
-    shell::list(b"chain", b"sixty-five");
+    shell::list(b"chain", b"ninety-seven");
     shell::list(b"chain", b"odd");
-    shell::list(b"chain", b"odd127");
+    shell::list(b"chain", b"odd191");
     shell::list(b"full64", b"twenty-two");
     shell::list(b"full64", b"twenty-three");
 }
 
-// Two refusals at once, and longer files, endless ones too.
+// Two refusals at once, a table that just holds the longest record, and longer files, endless ones too.
 fn both() {
     shell::list(b"short", b"odd");
     shell::list(b"twice", b"over");
-    shell::list(b"wide", b"odd127");
-    shell::list(b"wide", b"sixty-four");
+    shell::list(b"wide", b"odd191");
+    shell::list(b"wide", b"ninety-six");
+    shell::list(b"narrow", b"unknown");
     shell::list(b"overlong", b"three");
     shell::list(b"/dev/zero", b"three");
     shell::list(b"chain", b"/dev/zero");

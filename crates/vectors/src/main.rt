@@ -1,6 +1,6 @@
 // Runs the services on each line of standard input, and writes the line's name with the answers.
 // A line is a name, a colon, and a space and two digits for each byte of an image. Where nothing follows, the image is tested: written
-// are the number with N, L and B, and the numbers for records of 64 and of 65 events. Where a semicolon follows, a record is judged, and
+// are the number with N, L and B, and the numbers for records of 96 and of 97 events. Where a semicolon follows, a record is judged, and
 // where a bar follows, its readings are asked for: behind the bar are its events, two bytes each, and a line that ends there asks for
 // every number.
 mod judging; // a line that judges a record
@@ -28,9 +28,9 @@ fn test(image: &[u8]) {
     value(t.symbols as u64);
     value(t.leaves as u64);
     value(t.pairs as u64);
-    let most = image::test_record(image, 64);
+    let most = image::test_record(image, 96);
     value(most.number as u64);
-    let more = image::test_record(image, 65);
+    let more = image::test_record(image, 97);
     value(more.number as u64);
 }
 
