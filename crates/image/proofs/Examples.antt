@@ -1,4 +1,4 @@
--- The images of 01 and what the table says of them, by computing; and the largest number of firings that 01 names.
+-- The images of 01 and what the table says of them, by computing; and the most cells and firings that 02 names.
 -- Assumes nothing.
 use native.Mathlib.Decide.{ℕ-discrete, decLe, decLt}
 use mathlib.Core.Logic.{Dec·and, Dec·not}
@@ -6,7 +6,7 @@ use mathlib.Core.Path.{_≡_, refl}
 use mathlib.Core.List.{List, [], _∷_}
 use Prim.Native.Nat.{ℕ}
 use Rattle.derivation.specs.Sound.{mostSymbols, mostPairs}
-use Rattle.derivation.specs.Chart.{firingsBound}
+use Rattle.derivation.specs.Chart.{cells, firingsBound}
 use Rattle.derivation.specs.Examples.{chain, stop}
 use Rattle.layout.specs.Layout.{rulesFrom, counting, decode}
 use Rattle.image.specs.Image.{mostEvents}
@@ -39,7 +39,7 @@ pub refusals : (imageRefusal chainImage ∷ imageRefusal stopImage ∷ imageRefu
 unfolding imageRefusal image-decided bytes-decided rules-decided decided-both answer pick marked? range? fit? rises? dec-every dec-before dec-as dec-either dec-implies Dec·and Dec·not decode counting rulesFrom chainImage stopImage twiceImage ℕ-discrete decLe decLt
 refusals = refl
 
--- at the largest values
-pub most-firings : firingsBound mostEvents mostSymbols mostPairs ≡ 37750784
-unfolding firingsBound
-most-firings = refl
+-- at the largest values: the cells, and the most firings
+pub largest : (cells mostEvents ∷ firingsBound mostEvents mostSymbols mostPairs ∷ []) ≡ 4656 ∷ 37750784 ∷ []
+unfolding cells firingsBound
+largest = refl

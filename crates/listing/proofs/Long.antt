@@ -1,5 +1,5 @@
--- Files longer than any that is listed: their first bytes decide, so that a program need read no more than 2,315 of a grammar file and
--- 129 of an event file.
+-- Files longer than any that is listed: their first bytes decide, so that a program need read no more than one byte past the longest
+-- image and one past the longest event file.
 -- Assumes nothing.
 use mathlib.Core.Path.{_≡_, subst}
 use mathlib.Core.Logic.{_⊎_, inl, inr, _≢_, ⊎-elim}

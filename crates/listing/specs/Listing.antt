@@ -69,7 +69,7 @@ pub record ListingIs (b e out : List ℕ) : Type 0 where
   pub refused : number ≢ 0 → out ≡ refusedLine number
   pub listed : number ≡ 0 → out ≡ listing (decode b) (words e)
 
--- so many bytes are enough for a line: at most 254 words, each of 5 digits and a byte behind it at most
+-- so many bytes are enough for a line: the words of the longest script, each of 5 digits and a byte behind it at most
 abbrev pub lineBytes : ℕ
 lineBytes = 6 * scriptWords mostEvents + 1
 
