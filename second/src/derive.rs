@@ -39,6 +39,13 @@ impl<T: Copy> Table<T> {
     }
 }
 
+impl Table<u128> {
+    /// Cut at the largest u128.
+    fn add(&mut self, a: usize, i: usize, k: usize, count: u128) {
+        self.set(a, i, k, self.get(a, i, k).saturating_add(count));
+    }
+}
+
 /// Whether the rule turns its symbol into event i + 1 and that is the whole of the stretch.
 pub fn matches(rule: &EventRule, events: &[u16], i: usize, k: usize) -> bool {
     k == i + 1 && rule.event == events[i]
@@ -48,14 +55,16 @@ pub fn matches(rule: &EventRule, events: &[u16], i: usize, k: usize) -> bool {
 pub fn derivable(grammar: &Grammar, events: &[u16]) -> Table<bool> {
     let mut known = Table::filled(false, grammar.symbols, events.len());
     for (i, k) in stretches(events.len()) {
-        for a in 0..grammar.symbols {
-            let mut event_rules = grammar.event_rules_of(a);
-            let mut pair_rules = grammar.pair_rules_of(a);
-            let by_event = event_rules.any(|(_, rule)| matches(rule, events, i, k));
-            let by_pair = pair_rules.any(|(_, rule)| {
-                (i + 1..k).any(|j| known.get(rule.left, i, j) && known.get(rule.right, j, k))
-            });
-            known.set(a, i, k, by_event || by_pair);
+        for rule in &grammar.event_rules {
+            if matches(rule, events, i, k) {
+                known.set(rule.symbol, i, k, true);
+            }
+        }
+        for rule in &grammar.pair_rules {
+            let both = |j| known.get(rule.left, i, j) && known.get(rule.right, j, k);
+            if (i + 1..k).any(both) {
+                known.set(rule.symbol, i, k, true);
+            }
         }
     }
     known
@@ -73,17 +82,15 @@ pub fn derivable(grammar: &Grammar, events: &[u16]) -> Table<bool> {
 pub fn counts(grammar: &Grammar, events: &[u16]) -> Table<u128> {
     let mut known = Table::filled(0, grammar.symbols, events.len());
     for (i, k) in stretches(events.len()) {
-        for a in 0..grammar.symbols {
-            let event_rules = grammar.event_rules_of(a);
-            let matching = event_rules.filter(|(_, rule)| matches(rule, events, i, k));
-            let mut count = matching.count() as u128;
-            for (_, rule) in grammar.pair_rules_of(a) {
-                for j in i + 1..k {
-                    let (left, right) = (known.get(rule.left, i, j), known.get(rule.right, j, k));
-                    count = count.saturating_add(u128::saturating_mul(left, right));
-                }
+        for rule in &grammar.event_rules {
+            known.add(rule.symbol, i, k, matches(rule, events, i, k).into());
+        }
+        // Split by split, since the words of its two cells stand together: large tables are slow.
+        for j in i + 1..k {
+            for rule in &grammar.pair_rules {
+                let (left, right) = (known.get(rule.left, i, j), known.get(rule.right, j, k));
+                known.add(rule.symbol, i, k, u128::saturating_mul(left, right));
             }
-            known.set(a, i, k, count);
         }
     }
     known
@@ -97,9 +104,9 @@ pub fn firings(grammar: &Grammar, events: &[u16], derivable: &Table<bool>) -> u6
         let matching = grammar.event_rules.iter().filter(|r| r.event == *event);
         firings += matching.count() as u64;
     }
-    for rule in &grammar.pair_rules {
-        for (i, k) in stretches(events.len()) {
-            for j in i + 1..k {
+    for (i, k) in stretches(events.len()) {
+        for j in i + 1..k {
+            for rule in &grammar.pair_rules {
                 let both = derivable.get(rule.left, i, j) && derivable.get(rule.right, j, k);
                 firings += u64::from(both);
             }

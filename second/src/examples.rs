@@ -33,6 +33,14 @@ pub fn stop() -> Vec<u8> {
     image(6, &event_rules, &pair_rules)
 }
 
+/// As many symbols and rules as there may be. Every symbol turns into each of the events 0 to 7 and
+/// into four pairs, and so it is derivable over any stretch of these events.
+pub fn largest() -> Vec<u8> {
+    let event_rules: Vec<_> = (0..512).map(|r| ((r / 8) as u8, r % 8)).collect();
+    let pair_rules: Vec<_> = (0..=255).map(|r| (r / 4, r % 64, r / 8 + 7)).collect();
+    image(64, &event_rules, &pair_rules)
+}
+
 /// BINARY: a record of zeros and ones has as many readings as the number that it writes, so that
 /// any total can be had. One more digit makes the number twice as large (0 = 0 1 and 0 = 0 2) and
 /// one larger if the digit is one (0 = 3 4); 1 and 2 turn into any digit, 4 into one, and 3 has one

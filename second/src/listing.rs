@@ -3,9 +3,13 @@
 use crate::derive::cells;
 use crate::image::{decode, refuse_if};
 use crate::readings::{cut, Readings};
+use crate::services::MOST_EVENTS;
+
+/// An event file may have so many bytes, two for each event.
+pub const MOST_BYTES: usize = 2 * MOST_EVENTS;
 
 /// The words of the program's count buffer.
-const COUNT_BUFFER: usize = 16_384;
+pub const COUNT_BUFFER: usize = 16_384;
 
 /// At most so many scripts are listed.
 const LISTED: u32 = 100;
@@ -26,7 +30,7 @@ pub fn output(grammar: Option<&[u8]>, events: Option<&[u8]>) -> String {
 /// this order.
 fn listing(image: &[u8], event_bytes: &[u8]) -> Result<String, u8> {
     let grammar = decode(image)?;
-    refuse_if(event_bytes.len() > 128, 8)?;
+    refuse_if(event_bytes.len() > MOST_BYTES, 8)?;
     refuse_if(event_bytes.len() % 2 == 1, 14)?;
     let events: Vec<u16> = event_bytes.chunks(2).map(event).collect();
     refuse_if(grammar.symbols * cells(events.len()) > COUNT_BUFFER, 10)?;

@@ -5,6 +5,9 @@ use crate::image::{decode, refuse_if, Grammar};
 use crate::readings::{cut, is_reading, Readings};
 use crate::trees::script_words;
 
+/// A record may have so many events.
+pub const MOST_EVENTS: usize = 96;
+
 #[derive(Clone, Copy, Debug, Default, PartialEq)]
 pub struct Tested {
     pub number: u8,
@@ -84,7 +87,7 @@ pub fn check(image: &[u8], events: &[u16], script: &[u16]) -> Checked {
 /// Refusals 1 to 8, with which every service over a record begins.
 fn accept(image: &[u8], events: &[u16]) -> Result<Grammar, u8> {
     let grammar = decode(image)?;
-    refuse_if(events.len() > 64, 8)?;
+    refuse_if(events.len() > MOST_EVENTS, 8)?;
     Ok(grammar)
 }
 

@@ -173,9 +173,9 @@ fn more_than_can_be_counted() {
     let event_rules: Vec<_> = (0..7).map(|a| (a, 0)).collect();
     let image = image(7, &event_rules, &pair_rules);
     let grammar = decode(&image).expect("an accepted image");
-    let readings = Readings::of(&grammar, &[0; 64]);
+    let readings = Readings::of(&grammar, &[0; 96]);
     assert_eq!(readings.total(), u128::MAX);
     let (first, last) = (readings.script(0), readings.script(4_294_967_294));
     assert!(first < last);
-    assert!(is_reading(&grammar, &[0; 64], &last));
+    assert!(is_reading(&grammar, &[0; 96], &last));
 }

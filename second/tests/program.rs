@@ -25,17 +25,40 @@ fn no_file() {
 #[test]
 fn refusals_in_their_order() {
     let refused = |image: &[u8], length| output(Some(image), Some(&vec![0; length]));
-    assert_eq!(refused(b"ESG", 129), "refused 1\n");
-    assert_eq!(refused(&[chain(), vec![0]].concat(), 129), "refused 5\n");
-    assert_eq!(refused(&chain(), 129), "refused 8\n");
-    assert_eq!(refused(&chain(), 130), "refused 8\n");
-    assert_eq!(refused(&chain(), 127), "refused 14\n");
-    assert_eq!(refused(&image(64, &[], &[]), 127), "refused 14\n");
-    assert_eq!(refused(&image(64, &[], &[]), 128), "refused 10\n");
-    assert_eq!(refused(&image(8, &[], &[]), 128), "refused 10\n");
-    assert_eq!(refused(&image(7, &[], &[]), 128), "readings 0\n");
-    assert_eq!(refused(&image(64, &[], &[]), 46), "refused 10\n");
-    assert_eq!(refused(&image(64, &[], &[]), 44), "readings 0\n");
+    assert_eq!(refused(b"ESG", 193), "refused 1\n");
+    assert_eq!(refused(&[chain(), vec![0]].concat(), 193), "refused 5\n");
+    assert_eq!(refused(&image(64, &[], &[]), 193), "refused 8\n");
+    assert_eq!(refused(&image(64, &[], &[]), 191), "refused 14\n");
+    assert_eq!(refused(&image(64, &[], &[]), 192), "refused 10\n");
+}
+
+#[test]
+fn event_file_lengths() {
+    let first = |length| {
+        let bytes: Vec<u8> = (0..length).map(|place| [7, 0][place % 2]).collect();
+        let text = output(Some(&chain()), Some(&bytes));
+        text.lines().next().expect("a line").to_string()
+    };
+    for length in [127, 129, 191] {
+        assert_eq!(first(length), "refused 14");
+    }
+    for length in [128, 130, 190, 192] {
+        assert_eq!(first(length), "readings 4294967295 or more");
+    }
+    for length in [193, 194, 255, 256, 65_536 + 192] {
+        assert_eq!(first(length), "refused 8");
+    }
+}
+
+/// The most events that the count buffer holds, and one more.
+#[test]
+fn count_buffer() {
+    let listed = |symbols, events| listed(&image(symbols, &[], &[]), &vec![0; events]);
+    assert_eq!(listed(3, 96), "readings 0\n");
+    for (symbols, events) in [(4, 90), (5, 80), (7, 67), (8, 63), (64, 22)] {
+        assert_eq!(listed(symbols, events), "readings 0\n");
+        assert_eq!(listed(symbols, events + 1), "refused 10\n");
+    }
 }
 
 #[test]

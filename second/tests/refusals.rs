@@ -1,6 +1,6 @@
 //! Each refusal, and what it leaves in the lent memory.
 
-use second::examples::{chain, image, stop};
+use second::examples::{chain, image, largest, stop};
 use second::services::{check, count, judge, reading, test, Checked, Counted, Judged, Tested};
 
 /// STOP with one byte changed.
@@ -54,15 +54,15 @@ fn refusals_of_an_image() {
             ..Tested::default()
         };
         assert_eq!(test(&image), told, "{image:?}");
-        every_service_refuses(number, &image, &[1; 65], 0);
+        every_service_refuses(number, &image, &[1; 97], 0);
     }
 }
 
 #[test]
 fn refusal_8() {
-    every_service_refuses(8, &stop(), &[1; 65], 0);
-    every_service_refuses(8, &stop(), &[1; 65], 20_000);
-    every_service_refuses(8, &stop(), &[1; 1_000], 20_000);
+    every_service_refuses(8, &stop(), &[1; 97], 0);
+    every_service_refuses(8, &stop(), &[1; 97], 30_000);
+    every_service_refuses(8, &stop(), &[1; 1_000], 30_000);
 }
 
 /// Refused with zeros elsewhere and nothing written, whatever the room.
@@ -86,18 +86,13 @@ fn every_service_refuses(number: u8, image: &[u8], events: &[u16], room: usize) 
 
 #[test]
 fn largest_and_smallest_images_are_accepted() {
-    let event_rules: Vec<_> = (0..512).map(|r| ((r / 8) as u8, r % 8)).collect();
-    let pair_rules: Vec<_> = (0..=255).map(|r| (r / 4, r % 4, 63)).collect();
     let told = |symbols, event_rules, pair_rules| Tested {
         number: 0,
         symbols,
         event_rules,
         pair_rules,
     };
-    assert_eq!(
-        test(&image(64, &event_rules, &pair_rules)),
-        told(64, 512, 256)
-    );
+    assert_eq!(test(&largest()), told(64, 512, 256));
     assert_eq!(test(&image(1, &[], &[])), told(1, 0, 0));
     assert_eq!(test(&stop()), told(6, 3, 4));
 }
@@ -130,6 +125,22 @@ fn refusal_11_comes_before_12() {
     let (mut table, mut script) = ([8; 36], [7; 9]);
     let refused = reading(&stop(), &[1, 2, 3], 1, &mut table, &mut script);
     assert_eq!((refused, table, script), (11, [8; 36], [7; 9]));
+}
+
+/// One word short, and just enough.
+#[test]
+fn rooms_of_the_longest_record() {
+    let (chain, events) = (chain(), [7; 96]);
+    let (mut chart, mut table, mut script) = ([9; 4_656], [8; 4_656], [7; 382]);
+    assert_eq!(judge(&chain, &events, &mut chart[1..]).number, 9);
+    assert_eq!(count(&chain, &events, &mut table[1..]).number, 10);
+    let read = |table: &mut [u32], script: &mut [u16]| reading(&chain, &events, 0, table, script);
+    assert_eq!(read(&mut table[1..], &mut script), 10);
+    assert_eq!(read(&mut table, &mut script[1..]), 11);
+    assert_eq!((chart, table, script), ([9; 4_656], [8; 4_656], [7; 382]));
+    assert_eq!(judge(&chain, &events, &mut chart).number, 0);
+    assert_eq!(count(&chain, &events, &mut table).number, 0);
+    assert_eq!(read(&mut table, &mut script), 0);
 }
 
 #[test]

@@ -1,12 +1,12 @@
 //! The rows of the specification's two grammars.
 
-use second::examples::{chain, stop};
+use second::examples::{chain, largest, stop};
 use second::services::{check, count, judge, reading, Checked, Counted, Judged};
 
-/// More than any row needs.
-const CHART: usize = 2_080;
-const TABLE: usize = 2_080 * 6;
-const SCRIPT: usize = 254;
+/// Enough for any row.
+const CHART: usize = 4_656;
+const TABLE: usize = 4_656 * 6;
+const SCRIPT: usize = 382;
 
 /// Admitted, items, firings, and the readings if the row names them.
 type Row = (
@@ -108,12 +108,34 @@ fn many_readings() {
 
 #[test]
 fn most_events() {
-    assert_eq!(judge(&chain(), &[7; 64], &mut [0; CHART]).number, 0);
-    assert_eq!(total(&chain(), &[7; 64]).number, 0);
-    assert_eq!(script(&chain(), &[7; 64], 0).0, 0);
-    assert_eq!(check(&chain(), &[7; 64], &[]).number, 0);
-    assert_eq!(judge(&chain(), &[7; 65], &mut [0; CHART]).number, 8);
-    assert_eq!(total(&chain(), &[7; 65]).number, 8);
-    assert_eq!(script(&chain(), &[7; 65], 0).0, 8);
-    assert_eq!(check(&chain(), &[7; 65], &[]).number, 8);
+    for n in [64, 65, 95, 96] {
+        let events = vec![7; n];
+        assert_eq!(judge(&chain(), &events, &mut [0; CHART]).number, 0);
+        assert_eq!(total(&chain(), &events).number, 0);
+        let (number, words) = script(&chain(), &events, 0);
+        assert_eq!(number, 0);
+        assert!(check(&chain(), &events, &words).yes);
+    }
+    for n in [97, 98, 256 + 96, 65_536] {
+        let events = vec![7; n];
+        assert_eq!(judge(&chain(), &events, &mut [0; CHART]).number, 8);
+        assert_eq!(total(&chain(), &events).number, 8);
+        assert_eq!(script(&chain(), &events, 0).0, 8);
+        assert_eq!(check(&chain(), &events, &[]).number, 8);
+    }
+}
+
+/// As much of everything as there may be, and every symbol in every cell.
+#[test]
+fn largest_image_and_record() {
+    let events: Vec<u16> = (0..96).map(|place| place % 8).collect();
+    let mut chart = [0; 4_656];
+    let told = Judged {
+        number: 0,
+        admitted: true,
+        items: 4_656 * 64,
+        firings: 37_750_784,
+    };
+    assert_eq!(judge(&largest(), &events, &mut chart), told);
+    assert_eq!(chart, [u64::MAX; 4_656]);
 }

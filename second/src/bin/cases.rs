@@ -2,13 +2,12 @@
 //! run, and a line for each call: a name, and the call's arguments, parted by tabs.
 
 use second::derive::cells;
-use second::examples::{binary, chain, digits, image, stop};
+use second::examples::{binary, chain, digits, image, largest, stop};
+use second::listing::{COUNT_BUFFER, MOST_BYTES};
 use second::random::Random;
+use second::services::MOST_EVENTS;
 use std::path::PathBuf;
 use std::{env, fs, io};
-
-/// The words of the program's count buffer.
-const COUNT_BUFFER: usize = 16_384;
 
 /// A pair of files is named by a count, so that each pair has its own.
 struct Cases {
@@ -62,15 +61,20 @@ fn main() -> io::Result<()> {
     Ok(())
 }
 
+/// Numbers of events around the bits of a word and around the limit.
+fn long() -> impl Iterator<Item = usize> {
+    (63..=66).chain(MOST_EVENTS - 1..=MOST_EVENTS + 2)
+}
+
 /// The rows of the specification.
 fn examples(cases: &mut Cases) -> io::Result<()> {
-    for n in [0, 1, 2, 3, 4, 5, 7, 9, 20, 21, 63, 64, 65, 66] {
+    for n in [0, 1, 2, 3, 4, 5, 7, 9, 20, 21].into_iter().chain(long()) {
         cases.record(&format!("CHAIN, {n} events"), &chain(), &vec![7; n])?;
     }
     cases.record("CHAIN, 7 8", &chain(), &[7, 8])?;
     cases.record("CHAIN, the bytes of 7 swapped", &chain(), &[7 << 8])?;
-    for n in [0, 1, 2, 3, 4, 6, 63, 64] {
-        let events: Vec<u16> = (0..n).map(|place| 1 + place % 3).collect();
+    for n in [0, 1, 2, 3, 4, 6].into_iter().chain(long()) {
+        let events: Vec<u16> = (0..n).map(|place| 1 + (place % 3) as u16).collect();
         cases.record(&format!("STOP, {n} events"), &stop(), &events)?;
     }
     cases.record("STOP, 1 2 3 3 2 1", &stop(), &[1, 2, 3, 3, 2, 1])
@@ -85,7 +89,7 @@ fn totals(cases: &mut Cases) -> io::Result<()> {
         cases.record(&format!("total {total}"), &binary(), &digits(total))?;
     }
     cases.record("total of 64 bits", &binary(), &digits(u64::MAX))?;
-    cases.record("zeros only", &binary(), &[0; 64])
+    cases.record("zeros only", &binary(), &vec![0; longest(5)])
 }
 
 /// STOP with one byte changed.
@@ -123,20 +127,21 @@ fn refused_images(cases: &mut Cases) -> io::Result<()> {
         swapped,
         spoiled(10, 5),
     ];
+    let (odd, long) = ([0; MOST_BYTES - 1], [0; MOST_BYTES + 1]);
     for (at, image) in images.iter().enumerate() {
         cases.pair(&format!("refused image {at}"), image, &[1, 0])?;
-        cases.pair(&format!("refused image {at}, odd"), image, &[0; 127])?;
-        cases.pair(&format!("refused image {at}, long"), image, &[0; 129])?;
+        cases.pair(&format!("refused image {at}, odd"), image, &odd)?;
+        cases.pair(&format!("refused image {at}, long"), image, &long)?;
     }
     Ok(())
 }
 
 fn event_files(cases: &mut Cases) -> io::Result<()> {
     let wide = image(64, &[], &[]);
-    let lengths = [
-        1, 2, 3, 43, 44, 45, 46, 127, 128, 129, 130, 131, 255, 256, 257, 65_536, 65_539, 1_000_000,
-    ];
-    for length in lengths {
+    let shorter = [1, 2, 3, 43, 44, 45, 46, 127, 128, 129, 130];
+    let near = MOST_BYTES - 2..=MOST_BYTES + 2;
+    let longer = [255, 256, 257, 65_536, 65_539, 1_000_000];
+    for length in shorter.into_iter().chain(near).chain(longer) {
         let bytes: Vec<u8> = (0..length).map(|place| [7, 0][place % 2]).collect();
         cases.pair(&format!("CHAIN, {length} bytes"), &chain(), &bytes)?;
         cases.pair(&format!("64 symbols, {length} bytes"), &wide, &bytes)?;
@@ -144,13 +149,19 @@ fn event_files(cases: &mut Cases) -> io::Result<()> {
     Ok(())
 }
 
+/// The most events of a record that the count buffer holds with so many symbols.
+fn longest(symbols: usize) -> usize {
+    let fits = |n: &usize| symbols * cells(*n) <= COUNT_BUFFER;
+    let lengths = (0..=MOST_EVENTS).filter(fits);
+    lengths.max().expect("an empty record fits")
+}
+
 /// The longest record that the count buffer holds and the next one, if there may be one.
 fn count_buffer(cases: &mut Cases) -> io::Result<()> {
-    for symbols in [7_u8, 8, 9, 10, 13, 16, 20, 21, 32, 44, 63, 64] {
-        let image = image(symbols, &[(0, 7)], &[(0, 0, 0)]);
-        let fits = |n: &usize| symbols as usize * cells(*n) <= COUNT_BUFFER;
-        let last = (0..=64).filter(fits).max().expect("an empty record fits");
-        for n in last..=(last + 1).min(64) {
+    for symbols in [3, 4, 5, 6, 7, 8, 9, 10, 13, 16, 20, 21, 32, 44, 63, 64] {
+        let image = image(symbols as u8, &[(0, 7)], &[(0, 0, 0)]);
+        let last = longest(symbols);
+        for n in last..=(last + 1).min(MOST_EVENTS) {
             cases.record(
                 &format!("{symbols} symbols, {n} events"),
                 &image,
@@ -163,12 +174,9 @@ fn count_buffer(cases: &mut Cases) -> io::Result<()> {
 
 /// As many rules as there may be, so that rule numbers have three digits, and none.
 fn large(cases: &mut Cases) -> io::Result<()> {
-    let event_rules: Vec<_> = (0..512).map(|r| ((r / 8) as u8, r % 8)).collect();
-    let pair_rules: Vec<_> = (0..=255).map(|r| (r / 4, r % 64, r / 8 + 7)).collect();
-    let largest = image(64, &event_rules, &pair_rules);
     for n in [0, 1, 2, 3, 22] {
         let events: Vec<u16> = (0..n).map(|place| place % 8).collect();
-        cases.record(&format!("largest, {n} events"), &largest, &events)?;
+        cases.record(&format!("largest, {n} events"), &largest(), &events)?;
     }
     cases.record("no rules", &image(1, &[], &[]), &[7; 3])?;
     cases.record("no event rules", &image(1, &[], &[(0, 0, 0)]), &[7; 3])?;

@@ -3,6 +3,7 @@
 use second::examples::{binary, chain, digits, image, stop};
 use second::image::decode;
 use second::random::Random;
+use second::services::MOST_EVENTS;
 use std::collections::BTreeSet;
 
 /// An image and a record.
@@ -27,6 +28,9 @@ pub const KINDS: [Kind; 10] = [
 /// Events that differ in the low byte only, in the high byte only, and in both.
 const EVENTS: [u16; 10] = [0, 1, 7, 255, 256, 257, 1_792, 0x8000, 0xFF00, 0xFFFF];
 
+/// The longest records, but for some that are very much too long.
+pub const LONGEST: usize = MOST_EVENTS + 4;
+
 /// A kind in proportion to its number.
 pub fn any_kind(random: &mut Random) -> Kind {
     let mut place = random.below(1_000);
@@ -42,33 +46,47 @@ pub fn any_kind(random: &mut Random) -> Kind {
 fn chain_case(random: &mut Random) -> Drawn {
     let n = match random.below(8) {
         0..=3 => random.below(13),
-        4 | 5 => random.within(18, 24),
-        6 => random.within(60, 70),
+        4 => random.within(18, 24),
+        5 | 6 => long(random),
         // Refused too, though few events are left if only 8 or 16 bits of the length are looked at.
-        _ => random.one_of(&[256, 259, 320, 65_536, 65_539]),
+        _ => random.one_of(&[256, 259, 256 + MOST_EVENTS, 65_536, 65_539]),
     };
     (chain(), spoiled(random, vec![7; n], 4))
 }
 
+/// A number of events around the limit, often the limit itself, or around the bits of a word.
+fn long(random: &mut Random) -> usize {
+    match random.below(8) {
+        0..=2 => MOST_EVENTS,
+        3 => MOST_EVENTS + 1,
+        4 => random.within(62, 66),
+        _ => random.within(MOST_EVENTS - 6, LONGEST),
+    }
+}
+
 /// Stops one after the other, the last perhaps not whole.
 fn stop_case(random: &mut Random) -> Drawn {
-    let most = random.one_of(&[9, 9, 30, 70]);
+    let most = random.one_of(&[9, 9, 30, LONGEST]);
     let n = random.below(most + 1);
     let events = (0..n).map(|place| 1 + (place % 3) as u16).collect();
     (stop(), spoiled(random, events, 4))
 }
 
-/// Totals around the largest that is told exactly, and any others.
+/// Totals around the largest that is told exactly, and any others. Zeros before them change no
+/// total: with the most, a total of 64 digits fills the longest record.
 fn binary_case(random: &mut Random) -> Drawn {
     let total = match random.below(4) {
         0 | 1 => 4_294_967_292 + random.below(7) as u64,
         2 => random.within(1_990, 2_010) as u64,
         _ => random.word() >> random.below(64),
     };
-    let zeros = vec![0; random.one_of(&[0, 0, 0, 1, 5])];
-    let events = [zeros, digits(total)].concat();
-    let most = events.len().min(64);
-    (binary(), events[..most].to_vec())
+    let zeros = match random.below(16) {
+        0 => MOST_EVENTS - 64,
+        1..=3 => 1,
+        4..=6 => 5,
+        _ => 0,
+    };
+    (binary(), [vec![0; zeros], digits(total)].concat())
 }
 
 /// BINARY twice, one after the other: sums of products, also of zero and very many.
@@ -131,7 +149,7 @@ fn long_case(random: &mut Random) -> Drawn {
     let symbols = random.within(1, 5);
     let kinds = any_events(random, 3);
     let image = any_image(random, symbols, &kinds, 8, 10);
-    let most = random.within(60, 70);
+    let most = long(random);
     let events = any_record(random, &image, &kinds, most);
     (image, events)
 }
@@ -147,7 +165,7 @@ fn limits_case(random: &mut Random) -> Drawn {
 
 /// As much of everything as there may be.
 fn largest_case(random: &mut Random) -> Drawn {
-    full_case(random, 64, 512, 256, 64)
+    full_case(random, 64, 512, 256, MOST_EVENTS)
 }
 
 /// Exactly so many symbols, rules and events; all symbols turn into all events of the record but

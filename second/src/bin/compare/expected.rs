@@ -13,13 +13,18 @@ const NUMBERS: [(&str, &[u8]); 5] = [
     ("check", &[0, 1, 2, 3, 4, 5, 6, 7, 8]),
 ];
 
+/// Numbers of events around the bits of a word and around the limit, and the number of each service
+/// over such a record.
+const LENGTHS: [(usize, u8); 4] = [(64, 0), (65, 0), (96, 0), (97, 8)];
+
 const ROOMS: [&str; 3] = ["chart", "table", "script room"];
 
 const FITS: [&str; 4] = ["one word short", "shorter", "exact", "longer"];
 
-const OTHERS: [&str; 21] = [
+const OTHERS: [&str; 22] = [
     "judge: not admitted",
     "judge: admitted",
+    "judge: the most firings",
     "count: total 0",
     "count: total between",
     "count: total 4294967295",
@@ -47,8 +52,12 @@ pub fn expected() -> Vec<String> {
     for (service, numbers) in NUMBERS {
         all.extend(numbers.iter().map(|n| format!("{service}: number {n}")));
     }
+    for (service, _) in &NUMBERS[1..] {
+        all.extend(LENGTHS.map(|(n, number)| format!("{service}: {n} events, number {number}")));
+    }
     for room in ROOMS {
         all.extend(FITS.map(|fit| format!("{room}: {fit}")));
+        all.extend(FITS.map(|fit| format!("{room} for 96 events: {fit}")));
     }
     all.extend(KINDS.map(|(name, ..)| format!("kind: {name}")));
     all.extend(FAULTS.map(|(name, _)| format!("damage: {name}")));

@@ -15,6 +15,7 @@ mod tally;
 use damage::FAULTS;
 use plan::{Plan, Step};
 use second::random::Random;
+use second::services::MOST_EVENTS;
 use setting::Call;
 use sides::{Answer, PROVED, SECOND};
 use std::process::ExitCode;
@@ -22,6 +23,9 @@ use tally::Tally;
 
 /// In so many cases everything that is expected must occur.
 const ENOUGH: u64 = 20_000;
+
+/// The firings of the largest image and record with every symbol in every cell.
+const MOST_FIRINGS: u64 = 37_750_784;
 
 struct Arguments {
     seed: u64,
@@ -110,9 +114,20 @@ fn compare_step(step: &Step) -> Result<Answer, String> {
     ))
 }
 
+/// Records around the bits of a word and around the limit are counted on their own.
+fn note_length(tally: &mut Tally, step: &Step, number: u8) {
+    let service = step.setting.service();
+    let n = step.setting.events.slice().len();
+    let notable = [64, 65, MOST_EVENTS, MOST_EVENTS + 1].contains(&n);
+    if service != "test" && notable && [0, 8].contains(&number) {
+        tally.add(format!("{service}: {n} events, number {number}"));
+    }
+}
+
 fn note(tally: &mut Tally, step: &Step, Answer { number, rest }: Answer) {
     let service = step.setting.service();
     tally.add(format!("{service}: number {number}"));
+    note_length(tally, step, number);
     match step.setting.call {
         Call::Reading { k, .. } if k >= 4_294_967_294 && [0, 12, 13].contains(&number) => {
             tally.add(format!("reading: k = {k}, number {number}"));
@@ -120,6 +135,9 @@ fn note(tally: &mut Tally, step: &Step, Answer { number, rest }: Answer) {
         Call::Judge { .. } if number == 0 => {
             let verdict = ["not admitted", "admitted"][rest[0] as usize];
             tally.add(format!("judge: {verdict}"));
+            if rest[2] == MOST_FIRINGS {
+                tally.add("judge: the most firings");
+            }
         }
         Call::Count { .. } if number == 0 => tally.add(match rest[0] {
             0 => "count: total 0",

@@ -1,5 +1,6 @@
 //! Which calls are made with an image and a record: rooms, numbers of readings, scripts.
 
+use crate::draw::LONGEST;
 use crate::lent::{Lent, Word};
 use crate::scripts::{another_record, any_reading, of_another_symbol, random_words, CHANGES};
 use crate::setting::{Call, Setting};
@@ -8,6 +9,7 @@ use second::derive::cells;
 use second::image::{decode, Grammar};
 use second::random::Random;
 use second::readings::{cut, Readings};
+use second::services::MOST_EVENTS;
 use second::trees::script_words;
 
 /// A call, and what is said of it in the tally beside its answer.
@@ -27,6 +29,8 @@ pub struct Plan<'a> {
     n: usize,
     /// The words of a count table, as far as that can be told of a refused image.
     table: usize,
+    /// Whether the image is accepted and the record as long as it may be, so that rooms decide.
+    longest: bool,
 }
 
 impl<'a> Plan<'a> {
@@ -36,7 +40,7 @@ impl<'a> Plan<'a> {
         image: &'a [u8],
         events: &'a [u16],
     ) -> Self {
-        let n = events.len().min(70);
+        let n = events.len().min(LONGEST);
         let symbols = image.get(5).map_or(1, |&n| n.clamp(1, 64) as usize);
         Plan {
             random,
@@ -45,6 +49,7 @@ impl<'a> Plan<'a> {
             events,
             n,
             table: symbols * cells(n),
+            longest: n == MOST_EVENTS && decode(image).is_ok(),
         }
     }
 
@@ -58,7 +63,9 @@ impl<'a> Plan<'a> {
             self.step(Call::Count { table }),
         ];
         match decode(self.image) {
-            Ok(grammar) if self.events.len() <= 64 => steps.extend(self.answered(&grammar)),
+            Ok(grammar) if self.events.len() <= MOST_EVENTS => {
+                steps.extend(self.answered(&grammar))
+            }
             _ => {
                 let k = self.random.one_of(&[0, u32::MAX]);
                 steps.push(self.reading(k));
@@ -109,6 +116,10 @@ impl<'a> Plan<'a> {
             _ => "shorter",
         };
         self.tally.add(format!("{what}: {fit}"));
+        if self.longest {
+            let n = self.n;
+            self.tally.add(format!("{what} for {n} events: {fit}"));
+        }
         Lent::room(self.random, len)
     }
 
@@ -121,7 +132,7 @@ impl<'a> Plan<'a> {
     /// Sizes and totals that are easily got wrong are counted on their own.
     fn note_sizes(&mut self, grammar: &Grammar, total: u128) {
         let rules = (grammar.event_rules.len(), grammar.pair_rules.len());
-        if (self.n, grammar.symbols, rules) == (64, 64, (512, 256)) {
+        if (self.n, grammar.symbols, rules) == (MOST_EVENTS, 64, (512, 256)) {
             self.tally.add("largest image and record");
         }
         if self.n == 0 {
