@@ -25,8 +25,14 @@ pub const FULL: Alike = Alike {
 };
 
 /// The trees with so many leaves, of two parts at each other node: the Catalan number of one less.
+/// Where 128 bits don't hold them, the largest number stands for them: dividing before multiplying
+/// leaves no step that is too large for 128 bits where its outcome isn't.
 pub fn trees(leaves: usize) -> u128 {
-    (1..leaves as u128).fold(1, |c, m| c * (4 * m - 2) / (m + 1))
+    (1..leaves as u128).fold(1, |c, m| {
+        let (times, parts) = (4 * m - 2, m + 1);
+        let rest = c % parts * times / parts;
+        (c / parts).saturating_mul(times).saturating_add(rest)
+    })
 }
 
 /// A count as it is reported.
@@ -35,8 +41,8 @@ pub fn cut(count: u128) -> u64 {
 }
 
 impl Alike {
-    /// The derivations of a symbol: trees with a pair rule at each node that isn't a leaf. Where
-    /// 128 bits don't hold them, the largest number stands for them.
+    /// The derivations of a symbol: trees with a pair rule at each node that isn't a leaf. As
+    /// with `trees`, the largest number stands for those that 128 bits don't hold.
     pub fn ways(&self, events: usize) -> u128 {
         let choices = (self.pair_rules as u128).saturating_pow(events as u32 - 1);
         trees(events).saturating_mul(choices)

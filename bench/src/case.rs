@@ -96,7 +96,7 @@ where
     A: Debug + PartialEq,
     F: Fn(&Input, &mut Lent) -> A,
 {
-    let name = case.input.name;
+    let name = case.input.title();
     let [ours, plain] = sides.each_ref().map(|side| {
         let mut lent = Lent::new(case.room);
         let got = side(&case.input, &mut lent);
@@ -126,7 +126,7 @@ pub fn at_fault<A: From<u8>>() -> Vec<Case<A>> {
         (5, [stop(), vec![0]].concat(), 3),
         (6, spoiled(30, 6), 3),
         (7, twice, 3),
-        (8, stop(), 65),
+        (8, stop(), 97),
     ];
     let case = |(number, image, events)| {
         let input = Input::new("refused", image, &vec![1; events]);

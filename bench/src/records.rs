@@ -5,6 +5,10 @@ use crate::plain;
 use crate::random::Random;
 use crate::sizes::{cells, script_words};
 
+/// The lengths of the long records: the largest is the most that is accepted, and refusal 8 is given
+/// for one more. They don't follow from the plain side's limit, so that a wrong one is seen.
+pub const LENGTHS: [usize; 2] = [64, 96];
+
 /// A service takes no notice of the parts that it has no parameter for.
 #[derive(Clone)]
 pub struct Input {
@@ -34,6 +38,11 @@ impl Input {
         }
     }
 
+    /// The name of this record among those of other lengths.
+    pub fn title(&self) -> String {
+        format!("{}, {}", self.name, self.events.len())
+    }
+
     /// What the services need for this record, all of them together.
     pub fn needs(&self) -> Words {
         let n = self.events.len();
@@ -57,23 +66,24 @@ fn even() -> Vec<u8> {
     largest(|s, t| (7 * s + 13 * t) % 64)
 }
 
-fn every() -> Vec<u16> {
-    (0..64).map(|i| i % 8).collect()
+fn every(events: usize) -> Vec<u16> {
+    (0..8).cycle().take(events).collect()
 }
 
 /// Every cell is full.
-pub fn full() -> Input {
-    Input::new("full", even(), &every())
+pub fn full(events: usize) -> Input {
+    Input::new("full", even(), &every(events))
 }
 
 /// Every cell is full, and all rules share 4 left symbols.
-pub fn skewed() -> Input {
-    Input::new("skewed", largest(|_, t| t), &every())
+pub fn skewed(events: usize) -> Input {
+    Input::new("skewed", largest(|_, t| t), &every(events))
 }
 
-/// Two neighbours in sixteen match: 8 leaves and 4 stretches of two, all 64 symbols each.
-pub fn nearly_empty() -> Input {
-    let few: Vec<u16> = (0..64).map(|i| if i % 16 < 2 { 7 } else { 999 }).collect();
+/// Two neighbours in sixteen match: 2 leaves and a stretch of two, all 64 symbols each.
+pub fn nearly_empty(events: usize) -> Input {
+    let known = |i| if i % 16 < 2 { 7 } else { 999 };
+    let few: Vec<u16> = (0..events).map(known).collect();
     Input::new("nearly empty", even(), &few)
 }
 
@@ -81,8 +91,8 @@ pub fn short() -> Input {
     Input::new("short", even(), &[7])
 }
 
-pub fn sevens(name: &'static str, count: usize) -> Input {
-    Input::new(name, chain(), &vec![7; count])
+pub fn sevens(count: usize) -> Input {
+    Input::new("CHAIN", chain(), &vec![7; count])
 }
 
 /// As many sevens as eights.
@@ -92,23 +102,36 @@ pub fn sevens_and_eights(of_each: usize) -> Input {
 }
 
 pub fn stops() -> Input {
-    Input::new("STOP, 1 2 3 1 2 3", stop(), &[1, 2, 3, 1, 2, 3])
+    Input::new("STOP", stop(), &[1, 2, 3, 1, 2, 3])
 }
 
 /// The records `half`, which is the generator's first that fills the chart about half, and `mixed`.
-pub fn drawn() -> [Input; 2] {
+/// The longer ones have the same grammars and go on from the shorter ones.
+pub fn drawn(events: usize) -> [Input; 2] {
+    let [first, _] = LENGTHS;
     let mut random = Random::new(1);
     let image = mixed(&mut random);
-    let mixed = Input::new("mixed", image, &any_events(&mut random));
-    loop {
+    let mixed = Input::new("mixed", image, &any_events(&mut random, first));
+    let half = loop {
         let image = any_half(&mut random);
-        let half = Input::new("half", image, &any_events(&mut random));
-        if (30.0..70.0).contains(&half.fullness()) {
-            return [half, mixed];
+        let half = Input::new("half", image, &any_events(&mut random, first));
+        if about_half(&half) {
+            break half;
         }
-    }
+    };
+    let records = [half, mixed].map(|mut record| {
+        let more = any_events(&mut random, events - first);
+        record.events.extend(more);
+        record
+    });
+    assert!(about_half(&records[0]), "half of {events} events");
+    records
 }
 
-fn any_events(random: &mut Random) -> Vec<u16> {
-    (0..64).map(|_| random.below(8) as u16).collect()
+fn about_half(input: &Input) -> bool {
+    (30.0..70.0).contains(&input.fullness())
+}
+
+fn any_events(random: &mut Random, count: usize) -> Vec<u16> {
+    (0..count).map(|_| random.below(8) as u16).collect()
 }

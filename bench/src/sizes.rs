@@ -1,4 +1,7 @@
-//! The numbers of words that a record needs, and the limit of every count.
+//! The limits, and the numbers that follow from a number of events.
+
+/// A record of more events than this is refused.
+pub const MOST_EVENTS: usize = 96;
 
 /// A count that is at least this is reported as this.
 pub const LIMIT: u64 = u32::MAX as u64;
@@ -6,6 +9,11 @@ pub const LIMIT: u64 = u32::MAX as u64;
 /// The cells of a number of events.
 pub fn cells(events: usize) -> usize {
     events * (events + 1) / 2
+}
+
+/// The splits of all stretches of a number of events.
+pub fn splits(events: usize) -> usize {
+    (events.pow(3) - events) / 6
 }
 
 /// The words of a script over a number of events.

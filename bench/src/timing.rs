@@ -1,7 +1,7 @@
 //! The time of a whole call, grammar test included, of both sides in turns.
 
 use crate::case::{Case, Lent};
-use crate::records::Input;
+use crate::records::{Input, LENGTHS};
 use std::hint::black_box;
 use std::time::{Duration, Instant};
 
@@ -48,16 +48,21 @@ fn spread(rounds: impl Iterator<Item = f64>) -> Spread {
 
 pub fn explain(rounds: usize) {
     println!("microseconds for a call: median [min .. max] of {rounds} rounds");
+    println!("the number after a case's name is that of its events");
     println!("full is the share of a chart's bits that are one; ratio is ours / plain");
+    println!("steps are the splits of all stretches, for check the events");
 }
 
 pub fn print_head() {
     let (ours, plain) = ("ours", "plain");
-    println!("case                    full {ours:^35} {plain:^35} ratio");
+    println!("case                        full {ours:^35} {plain:^35} ratio");
 }
 
+/// A record and the median times of both sides for it.
+pub type Times<'a> = (&'a Input, [f64; 2]);
+
 /// The two sides take turns, so that a slow moment of the machine falls on both.
-pub fn measure<A, F>(sides: &[F; 2], case: &Case<A>, rounds: usize)
+pub fn measure<'a, A, F>(sides: &[F; 2], case: &'a Case<A>, rounds: usize) -> Times<'a>
 where
     F: Fn(&Input, &mut Lent) -> A,
 {
@@ -75,8 +80,23 @@ where
     let b = spread(times.iter().map(|t| t[1]));
     let r = spread(times.iter().map(|t| t[0] / t[1]));
     let ratio = a.median / b.median;
-    print!("{:21} {:5.1}%", input.name, input.fullness());
+    print!("{:25} {:5.1}%", input.title(), input.fullness());
     print!(" {:10.3} [{:10.3} ..{:10.3}]", a.median, a.min, a.max);
     print!(" {:10.3} [{:10.3} ..{:10.3}]", b.median, b.min, b.max);
     println!(" {ratio:6.3} [{:6.3} ..{:6.3}]", r.min, r.max);
+    (input, [a.median, b.median])
+}
+
+/// How the times of a case grow with its record, beside the steps.
+pub fn print_growth(times: &[Times], steps: fn(usize) -> usize) {
+    let [short, long] = LENGTHS;
+    let of_steps = steps(long) as f64 / steps(short) as f64;
+    println!("growth from {short} to {long} events   ours  plain  steps");
+    let of_length = |events| times.iter().filter(move |t| t.0.events.len() == events);
+    for (input, before) in of_length(short) {
+        if let Some((_, after)) = of_length(long).find(|t| t.0.name == input.name) {
+            let [ours, plain] = [0, 1].map(|s| after[s] / before[s]);
+            println!("{:27} {ours:6.3} {plain:6.3} {of_steps:6.3}", input.name);
+        }
+    }
 }

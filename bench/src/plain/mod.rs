@@ -11,6 +11,8 @@ pub use count::count;
 pub use judge::judge;
 pub use reading::reading;
 
+use crate::sizes::MOST_EVENTS;
+
 /// An accepted image: its number of symbols and its rules, three bytes each.
 struct Grammar<'a> {
     symbols: usize,
@@ -21,7 +23,7 @@ struct Grammar<'a> {
 /// Refusals 1 to 8, in their order.
 fn test<'a>(image: &'a [u8], events: &[u16]) -> Result<Grammar<'a>, u8> {
     let grammar = test_image(image)?;
-    if events.len() > 64 {
+    if events.len() > MOST_EVENTS {
         return Err(8);
     }
     Ok(grammar)

@@ -5,7 +5,7 @@ use super::compare_and_time;
 use super::reading::MIDDLE;
 use crate::answers::Checked;
 use crate::case::{at_fault, Case, Lent};
-use crate::records::{self, Input, Words};
+use crate::records::{self, Input, Words, LENGTHS};
 use crate::{ours, plain};
 
 type Check = fn(&[u8], &[u16], &[u16]) -> Checked;
@@ -16,18 +16,19 @@ pub fn run(rounds: usize) {
     let side = |check: Check| {
         move |input: &Input, _: &mut Lent| check(&input.image, &input.events, &input.script)
     };
-    compare_and_time(SIDES.map(side), timed(), others(), rounds);
+    let timed = LENGTHS.into_iter().flat_map(long).collect();
+    compare_and_time(SIDES.map(side), timed, others(), |events| events, rounds);
 }
 
-fn timed() -> Vec<Case<Checked>> {
-    let full = middle(records::full());
+fn long(events: usize) -> [Case<Checked>; 3] {
+    let full = middle(records::full(events));
     let mut wrong = full.clone();
     wrong.name = "full, last leaf wrong";
     // A rule of the same symbol for another event: everything before it is right.
     let last = wrong.script.len() - 2;
     wrong.script[last] ^= 1;
-    vec![
-        checked(middle(records::sevens("CHAIN, 64 sevens", 64)), true),
+    [
+        checked(middle(records::sevens(events)), true),
         checked(full, true),
         checked(wrong, false),
     ]
@@ -38,7 +39,7 @@ fn middle(input: Input) -> Input {
     let needs = input.needs();
     let (mut table, mut script) = (vec![0; needs.table], vec![0; needs.script]);
     let number = plain::reading(&input.image, &input.events, MIDDLE, &mut table, &mut script);
-    assert_eq!(number, 0, "{}: the middle reading", input.name);
+    assert_eq!(number, 0, "{}: the middle reading", input.title());
     Input { script, ..input }
 }
 
@@ -64,7 +65,7 @@ fn others() -> Vec<Case<Checked>> {
         (3, &[2, 1, 0, 1, 1, 2, 0, 2, 0, 3], false),
     ];
     let case = |(events, script, yes): (usize, &[u16], bool)| {
-        let sevens = records::sevens("a small script", events);
+        let sevens = records::sevens(events);
         let script = script.to_vec();
         checked(Input { script, ..sevens }, yes)
     };

@@ -6,8 +6,8 @@ use super::compare_and_time;
 use crate::alike::{cut, trees, CHAIN, FULL};
 use crate::answers::Counted;
 use crate::case::{at_fault, Case, Lent};
-use crate::records::{self, Input, Words};
-use crate::sizes::LIMIT;
+use crate::records::{self, Input, Words, LENGTHS};
+use crate::sizes::{splits, LIMIT};
 use crate::{ours, plain};
 
 type Count = fn(&[u8], &[u16], &mut [u32]) -> Counted;
@@ -18,28 +18,35 @@ pub fn run(rounds: usize) {
     let side = |count: Count| {
         move |input: &Input, lent: &mut Lent| count(&input.image, &input.events, &mut lent.table)
     };
-    compare_and_time(SIDES.map(side), timed(), others(), rounds);
+    compare_and_time(SIDES.map(side), timed(), others(), splits, rounds);
 }
 
 fn timed() -> Vec<Case<Counted>> {
-    let [half, mixed] = records::drawn();
+    let mut cases: Vec<_> = LENGTHS.into_iter().flat_map(long).collect();
+    cases.push(chain(3, 2));
+    // There are as many firings as items, so that each item has one derivation.
+    cases.push(counted(records::stops(), 1, 13));
+    cases
+}
+
+fn long(events: usize) -> Vec<Case<Counted>> {
+    let [half, mixed] = records::drawn(events);
     let mut table = vec![0; half.needs().table];
     let own = plain::count(&half.image, &half.events, &mut table);
     // The start is one of the 32 symbols with three rules. The other symbols go two by two: over a
     // stretch one has a derivation for each tree, the other has none.
-    let three = three_rules();
+    let three = three_rules(events);
     let of_mixed = |m| 32 * three[m] + 16 * cut(trees(m));
+    let of_full = |m| 64 * cut(FULL.ways(m));
+    // In sixteen events 64 symbols each: two leaves with one derivation and a stretch of two with
+    // one for each of four rules.
+    let few = events as u64 / 16 * 64 * (2 + 4);
     vec![
-        counted(records::full(), LIMIT, over(64, |m| 64 * cut(FULL.ways(m)))),
+        counted(records::full(events), LIMIT, over(events, of_full)),
         counted(half, own.total as u64, sum_of(&table)),
-        counted(mixed, three[64], over(64, of_mixed)),
-        // 64 symbols each: 8 leaves with one derivation and 4 stretches of two with one for each of
-        // four rules.
-        counted(records::nearly_empty(), 0, 64 * (8 + 4 * 4)),
-        chain("CHAIN, 7 7 7", 3, 2),
-        chain("CHAIN, 64 sevens", 64, LIMIT),
-        // There are as many firings as items, so that each item has one derivation.
-        counted(records::stops(), 1, 13),
+        counted(mixed, three[events], over(events, of_mixed)),
+        counted(records::nearly_empty(events), 0, few),
+        chain(events, LIMIT),
     ]
 }
 
@@ -54,15 +61,15 @@ fn others() -> Vec<Case<Counted>> {
         (21, LIMIT),
     ];
     let mut cases = at_fault();
-    cases.extend(rows.map(|(events, total)| chain("a row for CHAIN", events, total)));
+    cases.extend(rows.map(|(events, total)| chain(events, total)));
     cases.push(two_chains());
     cases.push(short_of_table());
     cases
 }
 
-fn chain(name: &'static str, events: usize, total: u64) -> Case<Counted> {
+fn chain(events: usize, total: u64) -> Case<Counted> {
     let sum = over(events, |m| cut(CHAIN.ways(m)));
-    counted(records::sevens(name, events), total, sum)
+    counted(records::sevens(events), total, sum)
 }
 
 /// Here the start has one split over a stretch, so that no sum hides a product that was cut
@@ -109,9 +116,9 @@ fn over(events: usize, in_a_cell: impl Fn(usize) -> u64) -> u64 {
 
 /// The derivations in `mixed` of a symbol with three rules at each split, by the number of events:
 /// the left part is such a symbol again, and the right part has a derivation for each tree.
-fn three_rules() -> Vec<u64> {
+fn three_rules(events: usize) -> Vec<u64> {
     let mut ways = vec![0, 1];
-    for m in 2..=64 {
+    for m in 2..=events {
         let with = |j: usize| ways[j] as u128 * cut(trees(m - j)) as u128;
         let sum: u128 = (1..m).map(with).sum();
         ways.push(cut(3 * sum));

@@ -1,10 +1,11 @@
-//! `judge`. What is told was worked out by hand, so that two equal wrong answers are seen too; only
-//! what is told of `half` is the plain side's own answer.
+//! `judge`. What is told was worked out by hand for any number of events, so that two equal wrong
+//! answers are seen too; only what is told of `half` is the plain side's own answer.
 
 use super::compare_and_time;
 use crate::answers::Judged;
 use crate::case::{at_fault, Case, Lent};
-use crate::records::{self, Input, Words};
+use crate::records::{self, Input, Words, LENGTHS};
+use crate::sizes::{cells, splits};
 use crate::{ours, plain};
 
 type Judge = fn(&[u8], &[u16], &mut [u64]) -> Judged;
@@ -16,33 +17,49 @@ pub fn run(rounds: usize) {
     let side = |judge: Judge| {
         move |input: &Input, lent: &mut Lent| judge(&input.image, &input.events, &mut lent.chart)
     };
-    compare_and_time(SIDES.map(side), timed(), refusals(), rounds);
+    compare_and_time(SIDES.map(side), timed(), refusals(), splits, rounds);
 }
 
-/// Every cell full: 64 symbols over 2,080 stretches, and 64 * 64 + 256 * (64^3 - 64) / 6 firings.
-const FULL: (bool, u64, u64) = (true, 133_120, 11_186_176);
+/// What is told of a record: the verdict, the items and the firings.
+type Told = (bool, u64, u64);
 
-/// Of 64 symbols 48 in every cell: 48 * 2,080 items and 48 * 64 + 112 * (64^3 - 64) / 6 firings.
-const MIXED: (bool, u64, u64) = (true, 99_840, 4_895_232);
+/// Every cell holds the same number of symbols, each leaf by one rule for a symbol, and at every
+/// split the same number of pair rules fires. With all of the largest grammar, over 96 events, that
+/// is 37,750,784 firings.
+fn even(events: usize, symbols: usize, pairs: usize) -> Told {
+    let items = symbols * cells(events);
+    let firings = symbols * events + pairs * splits(events);
+    (true, items as u64, firings as u64)
+}
 
 fn timed() -> Vec<Case<Judged>> {
-    let [half, mixed] = records::drawn();
+    let mut cases: Vec<_> = LENGTHS.into_iter().flat_map(long).collect();
+    cases.extend([
+        judged(records::short(), (true, 64, 64)),
+        judged(records::sevens(3), (true, 6, 7)),
+        judged(records::stops(), (true, 13, 13)),
+    ]);
+    cases
+}
+
+fn long(events: usize) -> Vec<Case<Judged>> {
+    let [half, mixed] = records::drawn(events);
     let chart = &mut vec![0; half.needs().chart];
     let own = plain::judge(&half.image, &half.events, chart);
+    // In sixteen events 64 symbols each: two leaves by one rule and a stretch of two by four rules.
+    let sixteens = events as u64 / 16;
+    let few = (false, sixteens * 64 * (2 + 1), sixteens * 64 * (2 + 4));
     vec![
-        judged(records::full(), FULL),
-        judged(records::skewed(), FULL),
+        judged(records::full(events), even(events, 64, 256)),
+        judged(records::skewed(events), even(events, 64, 256)),
         judged(half, (own.admitted, own.items, own.firings)),
-        judged(mixed, MIXED),
-        judged(records::nearly_empty(), (false, 768, 1536)),
-        judged(records::short(), (true, 64, 64)),
-        judged(records::sevens("CHAIN, 7 7 7", 3), (true, 6, 7)),
-        judged(records::stops(), (true, 13, 13)),
+        judged(mixed, even(events, 48, 112)),
+        judged(records::nearly_empty(events), few),
     ]
 }
 
 /// The ones in the chart are as many as the items.
-fn judged(input: Input, (admitted, items, firings): (bool, u64, u64)) -> Case<Judged> {
+fn judged(input: Input, (admitted, items, firings): Told) -> Case<Judged> {
     let chart = input.needs().chart;
     let written = Words {
         chart,

@@ -22,9 +22,15 @@ pub const ALL: [(&str, Run); 4] = [
     ("check", check::run),
 ];
 
-/// Compares both sides in all cases, and times them in those that are to be timed.
-fn compare_and_time<A, F>(sides: [F; 2], timed: Vec<Case<A>>, others: Vec<Case<A>>, rounds: usize)
-where
+/// Compares both sides in all cases, and times them in those that are to be timed. The steps that a
+/// call takes by its number of events are what the growth of its times is set beside.
+fn compare_and_time<A, F>(
+    sides: [F; 2],
+    timed: Vec<Case<A>>,
+    others: Vec<Case<A>>,
+    steps: fn(usize) -> usize,
+    rounds: usize,
+) where
     A: Debug + PartialEq,
     F: Fn(&Input, &mut Lent) -> A,
 {
@@ -33,7 +39,7 @@ where
     let (timed_count, other_count) = (timed.len(), others.len());
     println!("{timed_count} timed cases and {other_count} others equal in every answer and word");
     timing::print_head();
-    for case in &timed {
-        timing::measure(&sides, case, rounds);
-    }
+    let measure = |case| timing::measure(&sides, case, rounds);
+    let times: Vec<_> = timed.iter().map(measure).collect();
+    timing::print_growth(&times, steps);
 }

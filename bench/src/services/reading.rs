@@ -4,7 +4,8 @@
 use super::compare_and_time;
 use crate::alike::{Alike, CHAIN, FULL};
 use crate::case::{at_fault, Case, Lent};
-use crate::records::{self, Input, Words};
+use crate::records::{self, Input, Words, LENGTHS};
+use crate::sizes::splits;
 use crate::{ours, plain};
 
 type Reading = fn(&[u8], &[u16], u32, &mut [u32], &mut [u16]) -> u8;
@@ -17,18 +18,22 @@ pub fn run(rounds: usize) {
             reading(&i.image, &i.events, i.k, &mut lent.table, &mut lent.script)
         }
     };
-    compare_and_time(SIDES.map(side), timed(), others(), rounds);
+    compare_and_time(SIDES.map(side), timed(), others(), splits, rounds);
 }
 
 /// Half of the greatest number that a total is reported as.
 pub const MIDDLE: u32 = u32::MAX / 2;
 
 fn timed() -> Vec<Case<u8>> {
-    vec![
-        numbered(records::full(), MIDDLE, FULL),
-        numbered(records::sevens("CHAIN, 64 sevens", 64), MIDDLE, CHAIN),
-        written(records::stops(), 0, &STOPS),
-    ]
+    let long = |events| {
+        [
+            numbered(records::full(events), MIDDLE, FULL),
+            numbered(records::sevens(events), MIDDLE, CHAIN),
+        ]
+    };
+    let mut cases: Vec<_> = LENGTHS.into_iter().flat_map(long).collect();
+    cases.push(written(records::stops(), 0, &STOPS));
+    cases
 }
 
 /// The one reading of the record `stops`.
@@ -38,7 +43,7 @@ const STOPS: [u16; 22] = [
 
 /// Other rows of the specification, and refusals.
 fn others() -> Vec<Case<u8>> {
-    let sevens = |count| records::sevens("a row for CHAIN", count);
+    let sevens = records::sevens;
     let mut one_stop = records::stops();
     one_stop.events.truncate(3);
     let mut cases = at_fault();
