@@ -11,6 +11,9 @@ ghost use Rattle.image.specs.Image.{Accepted, mostEvents};
 ghost use Rattle.table.specs.Table.{tableWords};
 ghost use Rattle.listing.specs.Listing.{mostWords, mostBytes, refusedLine, orMore, heading, listing, Written};
 
+// The words of the program's count table.
+const TABLE_WORDS: usize = 16384;
+
 // The words of the longest script.
 const SCRIPT_WORDS: usize = 2 * (2 * image::MOST_EVENTS - 1);
 
@@ -59,7 +62,7 @@ fn write_readings(image: &[u8], events: &[u16], out: &mut [u8]) -> usize
     ensures { λ r. ⌜ (r ≤ length (now (out .exit))) × (take r (now (out .exit)) ≡ listing (decode (now (image .entry))) (now (events .entry))) ⌝ }
 {
     let n = events.len();
-    let mut table = [0u32; 16384];
+    let mut table = [0u32; TABLE_WORDS];
     table::fill_table(image, events, &mut table);
     let symbols = layout::symbol_count(image);
     let total = table::total_in(&table, symbols, n);

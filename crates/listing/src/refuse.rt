@@ -19,7 +19,7 @@ pub fn program_refusal(image: &[u8], events: &[u8]) -> u8
         return 14;
     }
     let need = table::words_needed(tested.symbols, size / 2);
-    if 16384 < need {
+    if super::TABLE_WORDS < need {
         return 10;
     }
     0

@@ -1,5 +1,5 @@
-// Every number of a record that is neither empty nor too long: written are how many readings there are, how many of the scripts pass the check, a number
-// made of all their words, and the refusal of the number past the last.
+// Every number of a record that is neither empty nor too long: written are how many readings there are, how many of the scripts pass the
+// check, a number made of all their words, and the refusal of the number past the last.
 use super::ROOM;
 use super::WORDS;
 use super::digest::mix_script;
