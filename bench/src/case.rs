@@ -54,15 +54,11 @@ pub struct Case<A> {
 impl<A: From<u8>> Case<A> {
     /// A call that gets more room than it needs.
     pub fn new(input: Input, written: Words, told: A) -> Self {
-        let Words {
-            chart,
-            table,
-            script,
-        } = input.needs();
+        let needs = input.needs();
         let room = Words {
-            chart: chart + SPARE,
-            table: table + SPARE,
-            script: script + SPARE,
+            chart: needs.chart + SPARE,
+            table: needs.table + SPARE,
+            script: needs.script + SPARE,
         };
         Case {
             input,

@@ -1,5 +1,7 @@
 //! Images for the tests and the comparisons.
 
+use crate::random::Random;
+
 /// An image of these rules; each kind is put in order here, and of equal rules one is kept.
 pub fn image(symbols: u8, event_rules: &[(u8, u16)], pair_rules: &[(u8, u8, u8)]) -> Vec<u8> {
     let (mut event_rules, mut pair_rules) = (event_rules.to_vec(), pair_rules.to_vec());
@@ -57,4 +59,30 @@ pub fn digits(total: u64) -> Vec<u16> {
     let length = 64 - total.leading_zeros();
     let digit = |place: u32| (total >> place & 1) as u16;
     (0..length).rev().map(digit).collect()
+}
+
+pub fn any_symbol(random: &mut Random, symbols: usize) -> u8 {
+    random.below(symbols) as u8
+}
+
+/// At most so many rules; of the same drawn twice one is kept. Other events are rare.
+pub fn any_image(
+    random: &mut Random,
+    symbols: usize,
+    kinds: &[u16],
+    event_rules: usize,
+    pair_rules: usize,
+) -> Vec<u8> {
+    let any_event = |random: &mut Random| match random.below(8) {
+        0 => random.word() as u16,
+        _ => random.one_of(kinds),
+    };
+    let event_rules: Vec<_> = (0..event_rules)
+        .map(|_| (any_symbol(random, symbols), any_event(random)))
+        .collect();
+    let pair_rules: Vec<_> = (0..pair_rules)
+        .map(|_| [0; 3].map(|_| any_symbol(random, symbols)))
+        .map(|[a, b, c]| (a, b, c))
+        .collect();
+    image(symbols as u8, &event_rules, &pair_rules)
 }

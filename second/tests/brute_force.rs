@@ -1,7 +1,7 @@
 //! What is worked out quickly, beside all derivations written down one by one.
 
 use second::derive::{counts, derivable, firings, stretches};
-use second::examples::{binary, digits, image};
+use second::examples::{any_image, binary, digits, image};
 use second::image::{decode, Grammar};
 use second::random::Random;
 use second::readings::{is_reading, listed, Readings};
@@ -30,17 +30,11 @@ fn scripts(grammar: &Grammar, events: &[u16], a: usize, i: usize, k: usize) -> V
 /// A grammar of few symbols and events, and a record of at most six events.
 fn small(random: &mut Random) -> (Grammar, Vec<u16>) {
     let symbols = random.within(1, 3);
-    let kinds = random.within(1, 2);
-    let symbol = |random: &mut Random| random.below(symbols) as u8;
-    let event_rules: Vec<_> = (0..random.within(1, 5))
-        .map(|_| (symbol(random), random.below(kinds) as u16))
-        .collect();
-    let pair_rules: Vec<_> = (0..random.within(1, 8))
-        .map(|_| (symbol(random), symbol(random), symbol(random)))
-        .collect();
-    let image = image(symbols as u8, &event_rules, &pair_rules);
+    let kinds = &[0, 1][..random.within(1, 2)];
+    let (event_rules, pair_rules) = (random.within(1, 5), random.within(1, 8));
+    let image = any_image(random, symbols, kinds, event_rules, pair_rules);
     let n = random.within(1, 6);
-    let events = (0..n).map(|_| random.below(kinds) as u16).collect();
+    let events = (0..n).map(|_| random.one_of(kinds)).collect();
     (decode(&image).expect("an accepted image"), events)
 }
 

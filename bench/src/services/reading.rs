@@ -100,21 +100,11 @@ fn past(input: Input, k: u32, number: u8) -> Case<u8> {
 /// Too little room is found before a number that no reading has, the table's before the script's.
 fn short_of_room() -> [Case<u8>; 2] {
     let short = |table_less, number| {
-        let k = 1;
-        let input = Input {
-            k,
-            ..records::stops()
-        };
-        let Words {
-            chart,
-            table,
-            script,
-        } = input.needs();
-        let room = Words {
-            chart,
-            table: table - table_less,
-            script: script - 1,
-        };
+        let mut input = records::stops();
+        input.k = 1;
+        let mut room = input.needs();
+        room.table -= table_less;
+        room.script -= 1;
         Case::refused(input, number).with_room(room)
     };
     [short(1, 10), short(0, 11)]

@@ -1,8 +1,10 @@
--- Laws of answers: what one says, that there is one only, and how it carries over; of `Every`; and of `same`.
+-- Laws of answers: what one says, that there is one only, and how it carries over; of `same`; and of two numbers.
 -- Assumes nothing.
 use mathlib.Core.Path.{_≡_, refl, ap, subst}
 use mathlib.Core.Bool.{Bool, true, false, not}
-use Prim.Native.Nat.{ℕ, zero, suc, _<_}
+use mathlib.Core.Logic.{_⊎_, inl, inr}
+use Prim.Native.Nat.{ℕ, zero, suc, _≤_, _<_}
+use native.Mathlib.Decide.{decLt}
 use native.Mathlib.Omega.{arith}
 use borrow.Author.Tests.{not-true, not-false}
 use Rattle.bits.specs.Truth.{Decides, same}
@@ -33,6 +35,10 @@ decides-only P true true p q = refl
 decides-only P true false p q = absurd (q p)
 decides-only P false true p q = absurd (p q)
 decides-only P false false p q = refl
+
+-- ---- of two numbers
+pub lt-or-ge : (m n : ℕ) → (m < n) ⊎ (n ≤ m)
+lt-or-ge m n = elim (decLt m n) [ yes p ↦ inl p | no h ↦ inr (omega arith) ]
 
 -- ---- equal, as a number
 pub same-refl : (a : ℕ) → same a a ≡ 1

@@ -81,7 +81,8 @@ pub fn is_reading(image: &[u8], events: &[u16], script: &[u16]) -> bool
     if n == 0 {
         return false;
     }
-    if script.len() != 2 * (2 * n - 1) {
+    let words = derivation::script_words(n);
+    if script.len() != words {
         return false;
     }
     follows(image, events, 0, 0, n, script)

@@ -13,7 +13,7 @@ use Rattle.image.specs.Image.{imageRows, longestImage}
 use Rattle.image.proofs.Refusals.{AllHold, first-hit}
 use Rattle.image.proofs.Images.{all-hold, holding, accepted-short}
 use Rattle.image.proofs.Long.{begins-alike}
-use Rattle.table.proofs.Capped.{lt-or-ge}
+use Rattle.bits.proofs.Truths.{lt-or-ge}
 use Rattle.listing.specs.Listing.{mostEventBytes, fileRows, ListingIs}
 use Rattle.listing.proofs.Refuses.{passed}
 

@@ -11,14 +11,17 @@ ghost use Rattle.image.specs.Image.{Accepted, mostEvents};
 ghost use Rattle.table.specs.Table.{tableWords};
 ghost use Rattle.listing.specs.Listing.{mostWords, mostBytes, refusedLine, orMore, heading, listing, Written};
 
+// The scripts that are listed at most.
+const MOST_LISTED: u32 = 100;
+
 // The words of the program's count table.
 const TABLE_WORDS: usize = 16384;
 
 // The words of the longest script.
 const SCRIPT_WORDS: usize = 2 * (2 * image::MOST_EVENTS - 1);
 
-// So many bytes hold any listing: a heading, and a hundred lines with at most five digits and a byte behind them for each word.
-pub const MOST_BYTES: usize = 64 + 100 * (6 * SCRIPT_WORDS + 1);
+// So many bytes hold any listing: a heading, and lines with at most five digits and a byte behind them for each word.
+pub const MOST_BYTES: usize = 64 + MOST_LISTED as usize * (6 * SCRIPT_WORDS + 1);
 
 // So many bytes of a grammar file and of an event file decide: one more than the longest that is not refused for its length.
 pub const IMAGE_BYTES: usize = image::LONGEST_IMAGE + 1;

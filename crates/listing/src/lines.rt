@@ -29,7 +29,7 @@ fn write_line(
         × (take r (now (out .exit)) ≡ take at (now (out .entry)) ++ line (getD (scripts (decode (now (image .entry))) (now (events .entry))) k [])) ⌝ }
 {
     let n = events.len();
-    let words = 4 * n - 2;
+    let words = derivation::script_words(n);
     let mut room = [0u16; super::SCRIPT_WORDS];
     unrank::write_script(image, events, table, 0, 0, n, k, &mut room);
     text::put_line(out, at, &room[..words])
@@ -54,7 +54,7 @@ pub fn write_lines(
     let mut end = at;
     let mut k: u32 = 0;
     while k < total {
-        if k == 100 {
+        if k == super::MOST_LISTED {
             return end;
         }
         end = write_line(image, events, table, k, out, end);

@@ -21,7 +21,7 @@ use Rattle.layout.specs.Layout.{decode}
 use Rattle.image.specs.Refusal.{First}
 use Rattle.image.proofs.Refusals.{none as passed, pass, first-only}
 use Rattle.table.specs.Table.{limit}
-use Rattle.table.proofs.Capped.{lt-or-ge}
+use Rattle.bits.proofs.Truths.{lt-or-ge}
 use Rattle.readings.specs.declared.Read.{Read}
 use Rattle.readings.specs.declared.Checked.{Checked}
 use Rattle.readings.specs.Count.{howMany}

@@ -1,7 +1,6 @@
 // The refusals of count and reading, each table the rows of the one before and more.
 ghost use mathlib.Core.Path.{_≡_};
-ghost use Prim.Native.Nat.{ℕ, _<_};
-ghost use Rattle.derivation.specs.Tree.{scriptWords};
+ghost use Prim.Native.Nat.{ℕ};
 ghost use Rattle.image.specs.Refusal.{First};
 ghost use Rattle.table.specs.Table.{held};
 ghost use Rattle.readings.specs.Count.{countRows};
@@ -23,17 +22,6 @@ pub fn count_refusal(image: &[u8], n: usize, size: usize) -> u8
     0
 }
 
-// How many words the room needs.
-fn script_words(n: usize) -> usize
-    requires { ⌜ n < 65536 ⌝ }
-    ensures { λ r. ⌜ r ≡ scriptWords n ⌝ }
-{
-    if n == 0 {
-        return 0;
-    }
-    2 * (2 * n - 1)
-}
-
 // Refusals 1 to 8, 10 and 11, or 0.
 pub fn lent_refusal(image: &[u8], n: usize, size: usize, space: usize) -> u8
     ensures { λ r. ⌜ First (lentRows (now (image .entry)) n size space) r ⌝ }
@@ -42,7 +30,7 @@ pub fn lent_refusal(image: &[u8], n: usize, size: usize, space: usize) -> u8
     if early != 0 {
         return early;
     }
-    let need = script_words(n);
+    let need = derivation::script_words(n);
     if space < need {
         return 11;
     }

@@ -1,8 +1,10 @@
 // The program around its text: opens and reads the two files, and writes the listing. Only what the system does stands outside the proof.
 use libc::STDOUT_FILENO;
-ghost use Prim.Native.Nat.{_≤_};
+ghost use Prim.Native.Nat.{_≤_, _<_};
 ghost use lib.ListN.{length};
 ghost use Rattle.io.specs.Counts.{Counts};
+ghost use Rattle.image.specs.Image.{longestImage};
+ghost use Rattle.listing.specs.Listing.{mostEventBytes};
 
 // What a file gave: whether every read went well, and how many bytes stand at the buffer's start.
 pub struct Loaded {
@@ -57,7 +59,15 @@ fn show(image: &[u8], events: &[u8]) {
     io::write_all(STDOUT_FILENO, &out[..n]);
 }
 
-// Of a longer file the bytes read decide already.
+// Writes the listing for what was read of two files, n and m bytes. Of a longer file such a buffer holds the bytes that decide.
+fn show_read(image: &[u8], n: usize, events: &[u8], m: usize)
+    requires { ⌜ (longestImage < length (now image)) × (mostEventBytes < length (now events)) ⌝ }
+    requires { ⌜ (n ≤ length (now image)) × (m ≤ length (now events)) ⌝ }
+{
+    show(&image[..n], &events[..m]);
+}
+
+// With both files open.
 fn with_files(image_fd: i32, event_fd: i32) {
     let mut image = [0u8; listing::IMAGE_BYTES];
     let mut events = [0u8; listing::EVENT_BYTES];
@@ -71,9 +81,7 @@ fn with_files(image_fd: i32, event_fd: i32) {
         say_no_file();
         return;
     }
-    let n = a.len;
-    let m = b.len;
-    show(&image[..n], &events[..m]);
+    show_read(&image, a.len, &events, b.len);
 }
 
 // With the grammar file open.

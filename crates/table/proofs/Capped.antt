@@ -1,14 +1,11 @@
 -- Numbers held at a limit M: a product, quotient or remainder of held numbers is, held, that of the numbers themselves.
 -- Assumes nothing.
 use mathlib.Core.Path.{_≡_, sym, _∙_}
-use mathlib.Core.Logic.{_⊎_, inl, inr, ⊎-elim}
+use mathlib.Core.Logic.{⊎-elim}
 use Prim.Native.Nat.{ℕ, zero, suc, _*_, _/_, _%_, _≤_, _<_, min}
 use native.Mathlib.Nat.{min-eq-left, min-eq-right, div-eq-of-lt, mod-eq-of-lt, mul-comm, le-mul-of-pos-right, mul-zero, le-of-lt, lt-of-lt-of-le, le-trans, min-zero}
-use native.Mathlib.Decide.{decLt}
 use native.Mathlib.Omega.{arith}
-
-pub lt-or-ge : (m n : ℕ) → (m < n) ⊎ (n ≤ m)
-lt-or-ge m n = elim (decLt m n) [ yes p ↦ inl p | no h ↦ inr (omega arith) ]
+use Rattle.bits.proofs.Truths.{lt-or-ge}
 
 module _ (M : ℕ) (pos : 0 < M) where
   -- where one factor is at the limit and the other is not 0, both products are

@@ -8,7 +8,7 @@ use mathlib.Core.Logic.{⊎-elim}
 use mathlib.Core.List.{List}
 use lib.ListN.{length, getD}
 use lib.Seq.{ext-getD}
-use Rattle.table.proofs.Capped.{lt-or-ge}
+use Rattle.bits.proofs.Truths.{lt-or-ge}
 use Rattle.derivation.specs.Grammar.{Grammar, leafCount, pairCount}
 use Rattle.derivation.specs.Derivations.{count, readings, derivations, trees}
 use Rattle.derivation.specs.Sound.{Sound}

@@ -61,7 +61,7 @@ pub fn run(image: &[u8], events: &[u16]) {
     if n == 0 {
         return;
     }
-    let words = 4 * n - 2;
+    let words = derivation::script_words(n);
     let total = count(image, events);
     let passed = pass_all(image, events, words, total);
     value(total as u64);

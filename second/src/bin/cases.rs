@@ -2,7 +2,7 @@
 //! run, and a line for each call: a name, and the call's arguments, parted by tabs.
 
 use second::derive::cells;
-use second::examples::{binary, chain, digits, image, largest, stop};
+use second::examples::{any_image, binary, chain, digits, image, largest, stop};
 use second::listing::{COUNT_BUFFER, MOST_BYTES};
 use second::random::Random;
 use second::services::MOST_EVENTS;
@@ -214,20 +214,14 @@ fn absent(cases: &Cases) -> io::Result<()> {
 /// A random grammar of few symbols, sometimes with one byte changed, and a random record.
 fn any(cases: &mut Cases, random: &mut Random, at: usize) -> io::Result<()> {
     let symbols = random.within(1, 4);
-    let kinds = random.within(1, 3);
-    let symbol = |random: &mut Random| random.below(symbols) as u8;
-    let event_rules: Vec<_> = (0..random.within(1, 9))
-        .map(|_| (symbol(random), random.below(kinds) as u16))
-        .collect();
-    let pair_rules: Vec<_> = (0..random.within(1, 20))
-        .map(|_| (symbol(random), symbol(random), symbol(random)))
-        .collect();
-    let mut image = image(symbols as u8, &event_rules, &pair_rules);
+    let kinds = &[0, 1, 2][..random.within(1, 3)];
+    let (event_rules, pair_rules) = (random.within(1, 9), random.within(1, 20));
+    let mut image = any_image(random, symbols, kinds, event_rules, pair_rules);
     if random.once_in(4) {
         let place = random.below(image.len());
         image[place] ^= 1 << random.below(8);
     }
     let n = random.within(1, 10);
-    let events: Vec<_> = (0..n).map(|_| random.below(kinds) as u16).collect();
+    let events: Vec<_> = (0..n).map(|_| random.one_of(kinds)).collect();
     cases.record(&format!("random {at}"), &image, &events)
 }

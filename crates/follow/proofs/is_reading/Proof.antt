@@ -1,5 +1,6 @@
 -- An empty record has no reading, and every script of the others has one length.
 -- Assumes nothing.
+use mathlib.Core.Path.{sym, _∙_}
 use native.Mathlib.Omega.{arith}
 use Rattle.derivation.proofs.Scripts.{reading-length, reading-some}
 use borrow.Author.Needs.{needs}
@@ -9,17 +10,11 @@ use Rattle.follow.proofs.is_reading.Tie as tie
 returns : tie.Need-returns
 returns c = λ s. omega (arith, reading-some _ _ _ s, c .if1 .taken)
 
-mul-if2 : tie.Need-mul-if2
-mul-if2 c = search needs
-
-sub-if2 : tie.Need-sub-if2
-sub-if2 c = search needs
-
-mul-if2-2 : tie.Need-mul-if2-2
-mul-if2-2 c = search needs
+script-words-requires : tie.Need-script-words-requires
+script-words-requires c κs = search needs
 
 returns-2 : tie.Need-returns-2
-returns-2 c = λ s. c .if2 .taken (reading-length _ _ _ s)
+returns-2 c = λ s. c .if2 .taken (reading-length _ _ _ s ∙ sym (c .before .script-words .ensures))
 
 follows-requires : tie.Need-follows-requires
 follows-requires c κs = search needs
@@ -32,9 +27,7 @@ is-reading-spec =
     tie.close
     (tie.spec
     returns
-    mul-if2
-    sub-if2
-    mul-if2-2
+    script-words-requires
     returns-2
     follows-requires
     returns-3)

@@ -1,6 +1,6 @@
 //! Random images, all of them accepted or just too large, and records that meet their rules.
 
-use second::examples::{binary, chain, digits, image, stop};
+use second::examples::{any_image, any_symbol, binary, chain, digits, image, stop};
 use second::image::decode;
 use second::random::Random;
 use second::services::MOST_EVENTS;
@@ -192,38 +192,12 @@ fn full_case(
     (image, spoiled(random, events, 4))
 }
 
-fn any_symbol(random: &mut Random, symbols: usize) -> u8 {
-    random.below(symbols) as u8
-}
-
 /// At most so many of the events.
 fn any_events(random: &mut Random, most: usize) -> Vec<u16> {
     let mut kinds = EVENTS.to_vec();
     kinds.rotate_left(random.below(EVENTS.len()));
     kinds.truncate(random.within(1, most));
     kinds
-}
-
-/// At most so many rules; of the same drawn twice one is kept. Other events are rare.
-fn any_image(
-    random: &mut Random,
-    symbols: usize,
-    kinds: &[u16],
-    event_rules: usize,
-    pair_rules: usize,
-) -> Vec<u8> {
-    let any_event = |random: &mut Random| match random.below(8) {
-        0 => random.word() as u16,
-        _ => random.one_of(kinds),
-    };
-    let event_rules: Vec<_> = (0..event_rules)
-        .map(|_| (any_symbol(random, symbols), any_event(random)))
-        .collect();
-    let pair_rules: Vec<_> = (0..pair_rules)
-        .map(|_| [0; 3].map(|_| any_symbol(random, symbols)))
-        .map(|[a, b, c]| (a, b, c))
-        .collect();
-    image(symbols as u8, &event_rules, &pair_rules)
 }
 
 /// A record of about at most so many events: mostly one that the rules derive, if chance finds it.

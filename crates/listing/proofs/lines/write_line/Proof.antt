@@ -1,14 +1,13 @@
 -- The script is written to the front of the room, and its words are the line.
 -- Assumes nothing.
-use mathlib.Core.Path.{_≡_, sym, ap, _∙_}
+use mathlib.Core.Path.{sym, ap, _∙_}
 use mathlib.Core.List.{List, _++_}
-use Prim.Native.Nat.{ℕ, _-_, _*_, _<_}
+use Prim.Native.Nat.{ℕ, _<_}
 use native.Mathlib.Nat.{sub-zero}
 use native.Mathlib.Omega.{arith}
 use lib.ListN.{length, take, length-take}
 use lib.Seq.{length-take-le}
 use denote.Ref.{now}
-use Rattle.derivation.specs.Tree.{scriptWords}
 use Rattle.derivation.specs.Derivations.{count as number, readings}
 use Rattle.table.proofs.Tables.{some-readings}
 use Rattle.listing.proofs.Lists.{line-of}
@@ -20,11 +19,8 @@ use Rattle.listing.proofs.lines.write_line.Tie as tie
 some : (c : tie.Start) → 0 < length (now (c .args .events))
 some c = some-readings _ _ _ (c .pre .1 .1 .0 .2)
 
-mul-words : tie.Need-mul-words
-mul-words c = search needs
-
-sub-words : tie.Need-sub-words
-sub-words c = omega (arith, some (c .before .before .before .before))
+script-words-requires : tie.Need-script-words-requires
+script-words-requires c κs = omega (arith, c .before .before .before .before .pre .1 .1 .0 .0)
 
 slice-aggregate-write-script : tie.Need-slice-aggregate-write-script
 slice-aggregate-write-script c = search needs
@@ -32,18 +28,18 @@ slice-aggregate-write-script c = search needs
 write-script-requires : tie.Need-write-script-requires
 unfolding number readings
 write-script-requires c κs =
-    let q = c .before .before .before .before .before .pre in
+    let q = c .before .before .before .before .before .before .pre in
     let p = q .1 .1 .0 in
-    (q .0, (q .1 .0, ((some (c .before .before .before .before .before), omega arith, omega (arith, p .0), rw sub-zero (omega (arith, p .0))), (p .1, p .2))))
+    (q .0, (q .1 .0, ((some (c .before .before .before .before .before .before), omega arith, omega (arith, p .0), rw sub-zero (omega (arith, p .0))), (p .1, p .2))))
 
 array-share-prefix-room : tie.Need-array-share-prefix-room
-array-share-prefix-room c = omega (arith, c .before .before .before .before .before .before .before .before .pre .1 .1 .0 .0, some (c .before .before .before .before .before .before .before .before))
+array-share-prefix-room c = omega (arith, c .before .before .before .before .before .before .before .before .before .pre .1 .1 .0 .0, c .before .before .before .before .script-words .ensures)
 
 slice-aggregate-put-line : tie.Need-slice-aggregate-put-line
-slice-aggregate-put-line c = sym (length-take-le _ _ (omega (arith, c .before .before .before .before .before .before .before .before .before .pre .1 .1 .0 .0, some (c .before .before .before .before .before .before .before .before .before))))
+slice-aggregate-put-line c = sym (length-take-le _ _ (omega (arith, c .before .before .before .before .before .before .before .before .before .before .pre .1 .1 .0 .0, c .before .before .before .before .before .script-words .ensures)))
 
 put-line-requires : tie.Need-put-line-requires
-put-line-requires c κs = rw length-take (omega (arith, c .before .before .before .before .before .before .before .before .before .pre .1 .1 .0 .0, c .before .before .before .before .before .before .before .before .before .pre .1 .1 .1, some (c .before .before .before .before .before .before .before .before .before)))
+put-line-requires c κs = rw length-take (omega (arith, c .before .before .before .before .before .before .before .before .before .before .pre .1 .1 .0 .0, c .before .before .before .before .before .before .before .before .before .before .pre .1 .1 .1, c .before .before .before .before .before .script-words .ensures))
 
 same-length : tie.Need-same-length
 same-length c = search needs
@@ -51,18 +47,17 @@ same-length c = search needs
 returns : tie.Need-returns
 unfolding readings
 returns c =
-    let q = c .before .before .before .before .before .before .before .before .before .before .before .before .pre in
-    let p = q .1 .1 .0 in
+    let p = c .before .before .before .before .before .before .before .before .before .before .before .before .before .pre .1 .1 .0 in
+    let e = c .before .before .before .before .before .before .before .before .script-words .ensures in
     let b = rw length-take at (c .before .before .put-line .ensures .0) in
-    let e : 4 * length (now (c .before .before .before .before .before .before .before .before .before .before .before .before .args .events)) - 2 ≡ scriptWords (length (now (c .before .before .before .before .before .before .before .before .before .before .before .before .args .events))) = omega (arith, some (c .before .before .before .before .before .before .before .before .before .before .before .before)) in
-    (omega (arith, b, p .0, some (c .before .before .before .before .before .before .before .before .before .before .before .before)), c .before .before .put-line .ensures .1 ∙ ap (λ (x : List ℕ). take (c .before .before .before .before .before .before .before .before .before .before .before .before .args .at) (now (c .before .before .before .before .before .before .before .before .before .before .before .before .args .out)) ++ x) (line-of _ _ _ (p .2) _ _ _ e (c .before .before .before .before .before .before .write-script .ensures)))
+    let front = take (c .before .before .before .before .before .before .before .before .before .before .before .before .before .args .at) (now (c .before .before .before .before .before .before .before .before .before .before .before .before .before .args .out)) in
+    (omega (arith, b, p .0, e), c .before .before .put-line .ensures .1 ∙ ap (λ (x : List ℕ). front ++ x) (line-of _ _ _ (p .2) _ _ _ e (c .before .before .before .before .before .before .write-script .ensures)))
 
 pub write-line-spec : {M : Type 1} → statement M
 write-line-spec =
     tie.close
     (tie.spec
-    mul-words
-    sub-words
+    script-words-requires
     slice-aggregate-write-script
     write-script-requires
     array-share-prefix-room
