@@ -1,31 +1,40 @@
-/* All five services on CHAIN and the record 7 7 7; what is written is the specification's. */
+/* All five services on CHAIN and the record 7 7 7, and the test of CHAIN with its event rule twice, which names rule 1; what is written is
+   the specification's. */
 #include "reader.h"
 #include <stdio.h>
 
 static const uint8_t chain[] = {0x45, 0x53, 0x47, 1, 0, 1, 1, 0, 1, 0, 0, 7, 0, 0, 0, 0};
+static const uint8_t twice[] = {0x45, 0x53, 0x47, 1, 0, 1, 2, 0, 1, 0, 0, 7, 0, 0, 7, 0, 0, 0, 0};
 static const uint16_t events[] = {7, 7, 7};
+
+static void test(const uint8_t *image, size_t length)
+{
+    uint16_t rule;
+    size_t symbols, leaves, pairs;
+    unsigned number = reader_test(image, length, &rule, &symbols, &leaves, &pairs);
+    printf("test %u: %u %zu %zu %zu\n", number, rule, symbols, leaves, pairs);
+}
 
 int main(void)
 {
-    size_t symbols, leaves, pairs;
     uint64_t chart[6], items, firings;
     uint32_t table[6], total;
-    uint16_t script[10];
+    uint16_t script[10], rule;
     bool admitted, yes;
-    unsigned number = reader_test(chain, sizeof chain, &symbols, &leaves, &pairs);
-    printf("test %u: %zu %zu %zu\n", number, symbols, leaves, pairs);
-    number = reader_judge(chain, sizeof chain, events, 3, chart, 6, &admitted, &items, &firings);
-    printf("judge %u: %d %llu %llu\n", number, admitted, (unsigned long long)items, (unsigned long long)firings);
-    number = reader_count(chain, sizeof chain, events, 3, table, 6, &total);
-    printf("count %u: %u\n", number, total);
+    test(chain, sizeof chain);
+    test(twice, sizeof twice);
+    unsigned number = reader_judge(chain, sizeof chain, events, 3, chart, 6, &rule, &admitted, &items, &firings);
+    printf("judge %u: %u %d %llu %llu\n", number, rule, admitted, (unsigned long long)items, (unsigned long long)firings);
+    number = reader_count(chain, sizeof chain, events, 3, table, 6, &rule, &total);
+    printf("count %u: %u %u\n", number, rule, total);
     for (uint32_t k = 0; k <= total; k++) {
-        number = reader_reading(chain, sizeof chain, events, 3, k, table, 6, script, 10);
-        printf("reading %u %u:", k, number);
+        number = reader_reading(chain, sizeof chain, events, 3, k, table, 6, script, 10, &rule);
+        printf("reading %u %u: %u,", k, number, rule);
         for (int x = 0; number == 0 && x < 10; x++)
             printf(" %u", script[x]);
         printf("\n");
     }
-    number = reader_check(chain, sizeof chain, events, 3, script, 10, &yes);
-    printf("check %u: %d\n", number, yes);
+    number = reader_check(chain, sizeof chain, events, 3, script, 10, &rule, &yes);
+    printf("check %u: %u %d\n", number, rule, yes);
     return 0;
 }

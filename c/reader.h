@@ -1,6 +1,7 @@
 /* The services as C functions; the archive is libboundary.a (tools/archive FOLDER). A slice is a pointer and a length in elements; a
    pointer with the length 0 is not read but must not be null. Each answers its refusal number, or 0, and the rest of its answer through
-   the pointers behind the slices, which are always written: zeros on a refusal. For n events a chart needs n(n + 1)/2 words, a table
+   the pointers behind the slices, which are always written: zeros on a refusal, but that refusals 6 and 7 give the first rule at fault
+   as the rule, numbered as the rules stand in the image; with every other answer the rule is 0. For n events a chart needs n(n + 1)/2 words, a table
    as many for each symbol, and a room 2(2n - 1), or none where n is 0. docs/STATEMENTS.md says what each function promises. */
 #ifndef READER_H
 #define READER_H
@@ -9,23 +10,25 @@
 #include <stdint.h>
 
 uint8_t reader_test(const uint8_t *image, size_t image_len,
-                    size_t *symbols, size_t *leaves, size_t *pairs);
+                    uint16_t *rule, size_t *symbols, size_t *leaves, size_t *pairs);
 
 uint8_t reader_judge(const uint8_t *image, size_t image_len,
                      const uint16_t *events, size_t events_len,
                      uint64_t *chart, size_t chart_len,
-                     bool *admitted, uint64_t *items, uint64_t *firings);
+                     uint16_t *rule, bool *admitted, uint64_t *items, uint64_t *firings);
 
 uint8_t reader_count(const uint8_t *image, size_t image_len,
                      const uint16_t *events, size_t events_len,
-                     uint32_t *table, size_t table_len, uint32_t *total);
+                     uint32_t *table, size_t table_len,
+                     uint16_t *rule, uint32_t *total);
 
 uint8_t reader_reading(const uint8_t *image, size_t image_len,
                        const uint16_t *events, size_t events_len, uint32_t k,
                        uint32_t *table, size_t table_len,
-                       uint16_t *room, size_t room_len);
+                       uint16_t *room, size_t room_len, uint16_t *rule);
 
 uint8_t reader_check(const uint8_t *image, size_t image_len,
                      const uint16_t *events, size_t events_len,
-                     const uint16_t *script, size_t script_len, bool *yes);
+                     const uint16_t *script, size_t script_len,
+                     uint16_t *rule, bool *yes);
 #endif

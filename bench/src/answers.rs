@@ -1,9 +1,16 @@
-//! What the services answer, on either side. Number 0 is success; a refusal is made from its number
-//! and has zeros elsewhere. `reading` answers with the number alone, as a `u8`.
+//! What the services answer, on either side. Number 0 is success; an answer that is made from a
+//! refusal has zeros elsewhere. `reading` answers with the refusal alone.
+
+/// A refusal's number, or 0, and the rule at fault: that of 6 and 7, with every other number 0.
+#[derive(Clone, Copy, Debug, Default, PartialEq)]
+pub struct Refusal {
+    pub number: u8,
+    pub rule: u16,
+}
 
 #[derive(Debug, Default, PartialEq)]
 pub struct Judged {
-    pub number: u8,
+    pub refusal: Refusal,
     pub admitted: bool,
     pub items: u64,
     pub firings: u64,
@@ -11,33 +18,42 @@ pub struct Judged {
 
 #[derive(Debug, Default, PartialEq)]
 pub struct Counted {
-    pub number: u8,
+    pub refusal: Refusal,
     pub total: u32,
 }
 
 #[derive(Debug, Default, PartialEq)]
 pub struct Checked {
-    pub number: u8,
+    pub refusal: Refusal,
     pub yes: bool,
 }
 
-impl From<u8> for Judged {
+impl From<u8> for Refusal {
     fn from(number: u8) -> Self {
+        Refusal { number, rule: 0 }
+    }
+}
+
+impl From<Refusal> for Judged {
+    fn from(refusal: Refusal) -> Self {
         Judged {
-            number,
+            refusal,
             ..Judged::default()
         }
     }
 }
 
-impl From<u8> for Counted {
-    fn from(number: u8) -> Self {
-        Counted { number, total: 0 }
+impl From<Refusal> for Counted {
+    fn from(refusal: Refusal) -> Self {
+        Counted { refusal, total: 0 }
     }
 }
 
-impl From<u8> for Checked {
-    fn from(number: u8) -> Self {
-        Checked { number, yes: false }
+impl From<Refusal> for Checked {
+    fn from(refusal: Refusal) -> Self {
+        Checked {
+            refusal,
+            yes: false,
+        }
     }
 }

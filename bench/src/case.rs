@@ -1,5 +1,6 @@
 //! A call whose outcome is known, and the comparison of both sides in it.
 
+use crate::answers::Refusal;
 use crate::grammars::stop;
 use crate::records::{Input, Words};
 use std::fmt::Debug;
@@ -51,7 +52,7 @@ pub struct Case<A> {
     known: Box<dyn Fn(&Lent) -> bool>,
 }
 
-impl<A: From<u8>> Case<A> {
+impl<A: From<Refusal>> Case<A> {
     /// A call that gets more room than it needs.
     pub fn new(input: Input, written: Words, told: A) -> Self {
         let needs = input.needs();
@@ -70,8 +71,8 @@ impl<A: From<u8>> Case<A> {
     }
 
     /// A call that is refused and writes nothing.
-    pub fn refused(input: Input, number: u8) -> Self {
-        Case::new(input, Words::default(), A::from(number))
+    pub fn refused(input: Input, refusal: impl Into<Refusal>) -> Self {
+        Case::new(input, Words::default(), A::from(refusal.into()))
     }
 
     pub fn with_room(self, room: Words) -> Self {
@@ -105,8 +106,8 @@ where
 }
 
 /// Refusals 1 to 8, which every service gives: each image or record is at fault in what its number
-/// names. They come before the refusals for too little room, so they are given with and without it.
-pub fn at_fault<A: From<u8>>() -> Vec<Case<A>> {
+/// names, 6 and 7 in the rule that is given. They come before the refusals for too little room, so they are given with and without it.
+pub fn at_fault<A: From<Refusal>>() -> Vec<Case<A>> {
     let spoiled = |at: usize, byte: u8| {
         let mut image = stop();
         image[at] = byte;
@@ -115,22 +116,20 @@ pub fn at_fault<A: From<u8>>() -> Vec<Case<A>> {
     let mut twice = stop();
     twice.copy_within(10..13, 13);
     let faults = [
-        (1, stop()[..9].to_vec(), 3),
-        (2, spoiled(2, b'X'), 3),
-        (3, spoiled(4, 1), 3),
-        (4, spoiled(5, 65), 3),
-        (5, [stop(), vec![0]].concat(), 3),
-        (6, spoiled(30, 6), 3),
-        (7, twice, 3),
-        (8, stop(), 97),
+        (1, 0, stop()[..9].to_vec(), 3),
+        (2, 0, spoiled(2, b'X'), 3),
+        (3, 0, spoiled(4, 1), 3),
+        (4, 0, spoiled(5, 65), 3),
+        (5, 0, [stop(), vec![0]].concat(), 3),
+        (6, 6, spoiled(30, 6), 3),
+        (7, 1, twice, 3),
+        (8, 0, stop(), 97),
     ];
-    let case = |(number, image, events)| {
+    let case = |(number, rule, image, events)| {
         let input = Input::new("refused", image, &vec![1; events]);
-        let ample = Case::refused(input.clone(), number);
-        [
-            ample,
-            Case::refused(input, number).with_room(Words::default()),
-        ]
+        let refused = |input| Case::refused(input, Refusal { number, rule });
+        let ample = refused(input.clone());
+        [ample, refused(input).with_room(Words::default())]
     };
     faults.into_iter().flat_map(case).collect()
 }

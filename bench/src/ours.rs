@@ -4,7 +4,7 @@
 //! that it came from or points to a local of its type; the proved side stays within them, writes
 //! only 0 or 1 for a bool and keeps none.
 
-use crate::answers::{Checked, Counted, Judged};
+use crate::answers::{Checked, Counted, Judged, Refusal};
 
 extern "C" {
     fn reader_judge(
@@ -14,6 +14,7 @@ extern "C" {
         events_len: usize,
         chart: *mut u64,
         chart_len: usize,
+        rule: *mut u16,
         admitted: *mut bool,
         items: *mut u64,
         firings: *mut u64,
@@ -26,6 +27,7 @@ extern "C" {
         events_len: usize,
         table: *mut u32,
         table_len: usize,
+        rule: *mut u16,
         total: *mut u32,
     ) -> u8;
 
@@ -39,6 +41,7 @@ extern "C" {
         table_len: usize,
         script: *mut u16,
         script_len: usize,
+        rule: *mut u16,
     ) -> u8;
 
     fn reader_check(
@@ -48,11 +51,16 @@ extern "C" {
         events_len: usize,
         script: *const u16,
         script_len: usize,
+        rule: *mut u16,
         yes: *mut bool,
     ) -> u8;
 }
 
+/// No refusal names this rule, so that one left unwritten is seen.
+const NO_RULE: u16 = u16::MAX;
+
 pub fn judge(image: &[u8], events: &[u16], chart: &mut [u64]) -> Judged {
+    let mut rule = NO_RULE;
     // No refusal and no case answers this, so that an answer left unwritten is seen.
     let (mut admitted, mut items, mut firings) = (true, u64::MAX, u64::MAX);
     // SAFETY: as said above.
@@ -64,13 +72,14 @@ pub fn judge(image: &[u8], events: &[u16], chart: &mut [u64]) -> Judged {
             events.len(),
             chart.as_mut_ptr(),
             chart.len(),
+            &mut rule,
             &mut admitted,
             &mut items,
             &mut firings,
         )
     };
     Judged {
-        number,
+        refusal: Refusal { number, rule },
         admitted,
         items,
         firings,
@@ -78,6 +87,7 @@ pub fn judge(image: &[u8], events: &[u16], chart: &mut [u64]) -> Judged {
 }
 
 pub fn count(image: &[u8], events: &[u16], table: &mut [u32]) -> Counted {
+    let mut rule = NO_RULE;
     // No refusal and no case answers this either; the largest number is a total like any other.
     let mut total = 0xDEAD_BEEF;
     // SAFETY: as said above.
@@ -89,15 +99,26 @@ pub fn count(image: &[u8], events: &[u16], table: &mut [u32]) -> Counted {
             events.len(),
             table.as_mut_ptr(),
             table.len(),
+            &mut rule,
             &mut total,
         )
     };
-    Counted { number, total }
+    Counted {
+        refusal: Refusal { number, rule },
+        total,
+    }
 }
 
-pub fn reading(image: &[u8], events: &[u16], k: u32, table: &mut [u32], script: &mut [u16]) -> u8 {
+pub fn reading(
+    image: &[u8],
+    events: &[u16],
+    k: u32,
+    table: &mut [u32],
+    script: &mut [u16],
+) -> Refusal {
+    let mut rule = NO_RULE;
     // SAFETY: as said above.
-    unsafe {
+    let number = unsafe {
         reader_reading(
             image.as_ptr(),
             image.len(),
@@ -108,11 +129,14 @@ pub fn reading(image: &[u8], events: &[u16], k: u32, table: &mut [u32], script: 
             table.len(),
             script.as_mut_ptr(),
             script.len(),
+            &mut rule,
         )
-    }
+    };
+    Refusal { number, rule }
 }
 
 pub fn check(image: &[u8], events: &[u16], script: &[u16]) -> Checked {
+    let mut rule = NO_RULE;
     // No refusal answers yes; of the scripts some are wrong, so that a no left unwritten is seen.
     let mut yes = true;
     // SAFETY: as said above.
@@ -124,8 +148,12 @@ pub fn check(image: &[u8], events: &[u16], script: &[u16]) -> Checked {
             events.len(),
             script.as_ptr(),
             script.len(),
+            &mut rule,
             &mut yes,
         )
     };
-    Checked { number, yes }
+    Checked {
+        refusal: Refusal { number, rule },
+        yes,
+    }
 }

@@ -61,6 +61,19 @@ pub fn digits(total: u64) -> Vec<u16> {
     (0..length).rev().map(digit).collect()
 }
 
+/// The image with rules at fault: first each of `repeated`, none of them the first of its kind, is
+/// made equal to the rule before it, then each of `unknown` gets N for its symbol.
+pub fn faulty(mut image: Vec<u8>, unknown: &[usize], repeated: &[usize]) -> Vec<u8> {
+    for rule in repeated {
+        let start = 10 + 3 * rule;
+        image.copy_within(start - 3..start, start);
+    }
+    for rule in unknown {
+        image[10 + 3 * rule] = image[5];
+    }
+    image
+}
+
 pub fn any_symbol(random: &mut Random, symbols: usize) -> u8 {
     random.below(symbols) as u8
 }

@@ -15,7 +15,7 @@ pub struct PairRule {
     pub right: usize,
 }
 
-/// What an accepted image shows.
+/// What an image shows, its rules sound or not.
 #[derive(Clone, Debug)]
 pub struct Grammar {
     /// N of the specification: symbols are 0 to N - 1.
@@ -39,23 +39,51 @@ impl Grammar {
         numbered.filter(move |(_, rule)| rule.symbol == symbol)
     }
 
-    fn symbols_are_in_range(&self) -> bool {
-        let known = |symbol: usize| symbol < self.symbols;
-        let mut event_rules = self.event_rules.iter();
-        let mut pair_rules = self.pair_rules.iter();
-        event_rules.all(|r| known(r.symbol))
-            && pair_rules.all(|r| known(r.symbol) && known(r.left) && known(r.right))
+    /// The numbers of the rules that have a symbol of N or more.
+    pub fn rules_out_of_range(&self) -> Vec<u16> {
+        let unknown = |symbol: usize| symbol >= self.symbols;
+        let event_rules = self.event_rules.iter().map(|r| unknown(r.symbol));
+        let pair_rules = self.pair_rules.iter();
+        let pair_rules =
+            pair_rules.map(|r| unknown(r.symbol) || unknown(r.left) || unknown(r.right));
+        numbers_at_fault(event_rules.chain(pair_rules))
     }
 
-    /// Each rule is above its predecessor of the same kind.
-    fn rules_rise(&self) -> bool {
-        self.event_rules.windows(2).all(|two| two[0] < two[1])
-            && self.pair_rules.windows(2).all(|two| two[0] < two[1])
+    /// The numbers of the rules that aren't above their predecessor of the same kind.
+    pub fn rules_out_of_order(&self) -> Vec<u16> {
+        numbers_at_fault(out_of_order(&self.event_rules).chain(out_of_order(&self.pair_rules)))
     }
 }
 
-/// The grammar that the image shows, or the number of the first refusal of 1 to 7 that applies.
-pub fn decode(image: &[u8]) -> Result<Grammar, u8> {
+/// Whether each rule of one kind isn't above its predecessor; the first has none.
+fn out_of_order<Rule: Ord>(rules: &[Rule]) -> impl Iterator<Item = bool> + '_ {
+    (0..rules.len()).map(|at| at > 0 && rules[at] <= rules[at - 1])
+}
+
+/// The numbers of those at fault of all rules, the event rules before the pair rules.
+fn numbers_at_fault(faults: impl Iterator<Item = bool>) -> Vec<u16> {
+    let at_fault = (0..).zip(faults).filter(|(_, fault)| *fault);
+    at_fault.map(|(number, _)| number).collect()
+}
+
+/// Why something is refused.
+#[derive(Clone, Copy, Debug, PartialEq)]
+pub struct Refusal {
+    pub number: u8,
+    /// With 6 and 7 the number of the first rule at fault, otherwise 0.
+    pub rule: u16,
+}
+
+/// The grammar that the image shows, or the first refusal of 1 to 7 that applies.
+pub fn decode(image: &[u8]) -> Result<Grammar, Refusal> {
+    let grammar = shown(image)?;
+    refuse_first(&grammar.rules_out_of_range(), 6)?;
+    refuse_first(&grammar.rules_out_of_order(), 7)?;
+    Ok(grammar)
+}
+
+/// The grammar that the image shows, or the first refusal of 1 to 5 that applies.
+pub fn shown(image: &[u8]) -> Result<Grammar, Refusal> {
     refuse_if(image.len() < 10, 1)?;
     refuse_if(image[0..3] != *b"ESG", 2)?;
     refuse_if(number_at(image, 3) != 1, 3)?;
@@ -63,22 +91,27 @@ pub fn decode(image: &[u8]) -> Result<Grammar, u8> {
     refuse_if(!(1..=64).contains(&n) || l > 512 || b > 256, 4)?;
     refuse_if(image.len() != 10 + 3 * (l + b), 5)?;
     let (event_rules, pair_rules) = image[10..].split_at(3 * l);
-    let grammar = Grammar {
+    Ok(Grammar {
         symbols: n,
         event_rules: event_rules.chunks(3).map(event_rule).collect(),
         pair_rules: pair_rules.chunks(3).map(pair_rule).collect(),
-    };
-    refuse_if(!grammar.symbols_are_in_range(), 6)?;
-    refuse_if(!grammar.rules_rise(), 7)?;
-    Ok(grammar)
+    })
 }
 
-/// An error with the refusal's number, so that `?` makes the first that applies the answer.
-pub fn refuse_if(applies: bool, number: u8) -> Result<(), u8> {
+/// An error if the refusal applies, so that `?` makes the first that does the answer.
+pub fn refuse_if(applies: bool, number: u8) -> Result<(), Refusal> {
     if applies {
-        return Err(number);
+        return Err(Refusal { number, rule: 0 });
     }
     Ok(())
+}
+
+/// The same for a refusal that applies if a rule is at fault, and that names the first.
+fn refuse_first(rules_at_fault: &[u16], number: u8) -> Result<(), Refusal> {
+    match rules_at_fault.first() {
+        Some(&rule) => Err(Refusal { number, rule }),
+        None => Ok(()),
+    }
 }
 
 /// The 16-bit number, low byte first, at a place of the image.

@@ -1,7 +1,7 @@
 //! What the listing program writes.
 
 use crate::derive::cells;
-use crate::image::{decode, refuse_if};
+use crate::image::{decode, refuse_if, Refusal};
 use crate::readings::{cut, Readings};
 use crate::services::MOST_EVENTS;
 
@@ -22,13 +22,16 @@ pub fn output(grammar: Option<&[u8]>, events: Option<&[u8]>) -> String {
     };
     match listing(grammar, events) {
         Ok(lines) => lines,
-        Err(number) => format!("refused {number}\n"),
+        Err(Refusal { number, rule }) => match number {
+            6 | 7 => format!("refused {number} {rule}\n"),
+            _ => format!("refused {number}\n"),
+        },
     }
 }
 
 /// The lines of the listing, or the first refusal of 1 to 8, 14 and 10, which the program tests in
 /// this order.
-fn listing(image: &[u8], event_bytes: &[u8]) -> Result<String, u8> {
+fn listing(image: &[u8], event_bytes: &[u8]) -> Result<String, Refusal> {
     let grammar = decode(image)?;
     refuse_if(event_bytes.len() > MOST_BYTES, 8)?;
     refuse_if(event_bytes.len() % 2 == 1, 14)?;

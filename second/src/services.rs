@@ -1,7 +1,8 @@
-//! The five services. Each gives back a refusal's number with zeros beside it, or 0 for success.
+//! The five services. Each gives back a refusal's number, or 0 for success. Beside a refusal all
+//! is zero, but for the first rule at fault with 6 and 7; that is 0 with every other answer.
 
 use crate::derive::{cell, cells, derivable, firings, stretches};
-use crate::image::{decode, refuse_if, Grammar};
+use crate::image::{decode, refuse_if, Grammar, Refusal};
 use crate::readings::{cut, is_reading, Readings};
 use crate::trees::script_words;
 
@@ -11,6 +12,7 @@ pub const MOST_EVENTS: usize = 96;
 #[derive(Clone, Copy, Debug, Default, PartialEq)]
 pub struct Tested {
     pub number: u8,
+    pub rule: u16,
     pub symbols: usize,
     pub event_rules: usize,
     pub pair_rules: usize,
@@ -19,6 +21,7 @@ pub struct Tested {
 #[derive(Clone, Copy, Debug, Default, PartialEq)]
 pub struct Judged {
     pub number: u8,
+    pub rule: u16,
     pub admitted: bool,
     pub items: u64,
     pub firings: u64,
@@ -27,12 +30,20 @@ pub struct Judged {
 #[derive(Clone, Copy, Debug, Default, PartialEq)]
 pub struct Counted {
     pub number: u8,
+    pub rule: u16,
     pub total: u32,
+}
+
+#[derive(Clone, Copy, Debug, Default, PartialEq)]
+pub struct Read {
+    pub number: u8,
+    pub rule: u16,
 }
 
 #[derive(Clone, Copy, Debug, Default, PartialEq)]
 pub struct Checked {
     pub number: u8,
+    pub rule: u16,
     pub yes: bool,
 }
 
@@ -41,12 +52,14 @@ pub fn test(image: &[u8]) -> Tested {
     match decode(image) {
         Ok(grammar) => Tested {
             number: 0,
+            rule: 0,
             symbols: grammar.symbols,
             event_rules: grammar.event_rules.len(),
             pair_rules: grammar.pair_rules.len(),
         },
-        Err(number) => Tested {
+        Err(Refusal { number, rule }) => Tested {
             number,
+            rule,
             ..Tested::default()
         },
     }
@@ -54,22 +67,33 @@ pub fn test(image: &[u8]) -> Tested {
 
 /// Judges a record: fills the chart, gives the verdict, the items and the firings.
 pub fn judge(image: &[u8], events: &[u16], chart: &mut [u64]) -> Judged {
-    judged(image, events, chart).unwrap_or_else(|number| Judged {
+    judged(image, events, chart).unwrap_or_else(|Refusal { number, rule }| Judged {
         number,
+        rule,
         ..Judged::default()
     })
 }
 
 /// Counts the readings: fills the count table, gives the total.
 pub fn count(image: &[u8], events: &[u16], table: &mut [u32]) -> Counted {
-    counted(image, events, table).unwrap_or_else(|number| Counted { number, total: 0 })
+    counted(image, events, table).unwrap_or_else(|Refusal { number, rule }| Counted {
+        number,
+        rule,
+        total: 0,
+    })
 }
 
 /// Gives reading number `k` as a script, and fills the count table.
-pub fn reading(image: &[u8], events: &[u16], k: u32, table: &mut [u32], script: &mut [u16]) -> u8 {
+pub fn reading(
+    image: &[u8],
+    events: &[u16],
+    k: u32,
+    table: &mut [u32],
+    script: &mut [u16],
+) -> Read {
     match read(image, events, k, table, script) {
-        Ok(()) => 0,
-        Err(number) => number,
+        Ok(()) => Read { number: 0, rule: 0 },
+        Err(Refusal { number, rule }) => Read { number, rule },
     }
 }
 
@@ -78,20 +102,25 @@ pub fn check(image: &[u8], events: &[u16], script: &[u16]) -> Checked {
     match accept(image, events) {
         Ok(grammar) => Checked {
             number: 0,
+            rule: 0,
             yes: is_reading(&grammar, events, script),
         },
-        Err(number) => Checked { number, yes: false },
+        Err(Refusal { number, rule }) => Checked {
+            number,
+            rule,
+            yes: false,
+        },
     }
 }
 
 /// Refusals 1 to 8, with which every service over a record begins.
-fn accept(image: &[u8], events: &[u16]) -> Result<Grammar, u8> {
+fn accept(image: &[u8], events: &[u16]) -> Result<Grammar, Refusal> {
     let grammar = decode(image)?;
     refuse_if(events.len() > MOST_EVENTS, 8)?;
     Ok(grammar)
 }
 
-fn judged(image: &[u8], events: &[u16], chart: &mut [u64]) -> Result<Judged, u8> {
+fn judged(image: &[u8], events: &[u16], chart: &mut [u64]) -> Result<Judged, Refusal> {
     let grammar = accept(image, events)?;
     let n = events.len();
     refuse_if(chart.len() < cells(n), 9)?;
@@ -103,13 +132,14 @@ fn judged(image: &[u8], events: &[u16], chart: &mut [u64]) -> Result<Judged, u8>
     let ones = chart[..cells(n)].iter().map(|c| u64::from(c.count_ones()));
     Ok(Judged {
         number: 0,
+        rule: 0,
         admitted: n > 0 && derivable.get(0, 0, n),
         items: ones.sum(),
         firings: firings(&grammar, events, &derivable),
     })
 }
 
-fn counted(image: &[u8], events: &[u16], table: &mut [u32]) -> Result<Counted, u8> {
+fn counted(image: &[u8], events: &[u16], table: &mut [u32]) -> Result<Counted, Refusal> {
     let grammar = accept(image, events)?;
     let need = grammar.symbols * cells(events.len());
     refuse_if(table.len() < need, 10)?;
@@ -117,6 +147,7 @@ fn counted(image: &[u8], events: &[u16], table: &mut [u32]) -> Result<Counted, u
     table[..need].copy_from_slice(&readings.table());
     Ok(Counted {
         number: 0,
+        rule: 0,
         total: cut(readings.total()),
     })
 }
@@ -127,7 +158,7 @@ fn read(
     k: u32,
     table: &mut [u32],
     script: &mut [u16],
-) -> Result<(), u8> {
+) -> Result<(), Refusal> {
     let grammar = accept(image, events)?;
     let need = grammar.symbols * cells(events.len());
     refuse_if(table.len() < need, 10)?;

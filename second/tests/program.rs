@@ -1,6 +1,6 @@
 //! The listing program's output.
 
-use second::examples::{binary, chain, digits, image, stop};
+use second::examples::{binary, chain, digits, faulty, image, largest, stop};
 use second::listing::output;
 
 /// The listing of these events as a file.
@@ -30,6 +30,27 @@ fn refusals_in_their_order() {
     assert_eq!(refused(&image(64, &[], &[]), 193), "refused 8\n");
     assert_eq!(refused(&image(64, &[], &[]), 191), "refused 14\n");
     assert_eq!(refused(&image(64, &[], &[]), 192), "refused 10\n");
+}
+
+/// Of 768 rules, whatever the event file; and of the two of CHAIN.
+#[test]
+fn rules_at_fault() {
+    for length in [2, 191, 193] {
+        let refused = |unknown: &[usize], repeated: &[usize]| {
+            let image = faulty(largest(), unknown, repeated);
+            output(Some(&image), Some(&vec![0; length]))
+        };
+        assert_eq!(refused(&[0], &[]), "refused 6 0\n");
+        assert_eq!(refused(&[10, 700], &[]), "refused 6 10\n");
+        assert_eq!(refused(&[767], &[]), "refused 6 767\n");
+        assert_eq!(refused(&[600], &[100]), "refused 6 600\n");
+        assert_eq!(refused(&[], &[1]), "refused 7 1\n");
+        assert_eq!(refused(&[], &[99, 513]), "refused 7 99\n");
+        assert_eq!(refused(&[], &[767]), "refused 7 767\n");
+    }
+    let refused = |unknown| listed(&faulty(chain(), unknown, &[]), &[7]);
+    assert_eq!(refused(&[0, 1]), "refused 6 0\n");
+    assert_eq!(refused(&[1]), "refused 6 1\n");
 }
 
 #[test]

@@ -1,7 +1,7 @@
 //! The rows of the specification's two grammars.
 
 use second::examples::{chain, largest, stop};
-use second::services::{check, count, judge, reading, Checked, Counted, Judged};
+use second::services::{check, count, judge, reading, Checked, Counted, Judged, Read};
 
 /// Enough for any row.
 const CHART: usize = 4_656;
@@ -43,7 +43,8 @@ fn total(image: &[u8], events: &[u16]) -> Counted {
 
 fn script(image: &[u8], events: &[u16], k: u32) -> (u8, Vec<u16>) {
     let mut words = vec![0; SCRIPT];
-    let number = reading(image, events, k, &mut [0; TABLE], &mut words);
+    let Read { number, rule } = reading(image, events, k, &mut [0; TABLE], &mut words);
+    assert_eq!(rule, 0, "no row has a rule at fault");
     words.truncate(if number == 0 { 4 * events.len() - 2 } else { 0 });
     (number, words)
 }
@@ -53,6 +54,7 @@ fn rows_marked_for_proof() {
     for (name, image, events, (admitted, items, firings), readings) in rows() {
         let told = Judged {
             number: 0,
+            rule: 0,
             admitted,
             items,
             firings,
@@ -82,6 +84,7 @@ fn first_readings() {
     assert_eq!(script(&stop(), &[1, 2, 3], 0), (0, words.clone()));
     let yes = Checked {
         number: 0,
+        rule: 0,
         yes: true,
     };
     assert_eq!(check(&stop(), &[1, 2, 3], &words), yes);
@@ -96,7 +99,11 @@ fn two_findings_in_one_cell() {
 
 #[test]
 fn many_readings() {
-    let told = |total| Counted { number: 0, total };
+    let told = |total| Counted {
+        number: 0,
+        rule: 0,
+        total,
+    };
     assert_eq!(total(&chain(), &[7; 20]), told(1_767_263_190));
     assert_eq!(total(&chain(), &[7; 21]), told(4_294_967_295));
     let (number, words) = script(&chain(), &[7; 21], 4_294_967_294);
@@ -132,6 +139,7 @@ fn largest_image_and_record() {
     let mut chart = [0; 4_656];
     let told = Judged {
         number: 0,
+        rule: 0,
         admitted: true,
         items: 4_656 * 64,
         firings: 37_750_784,

@@ -8,12 +8,12 @@ use crate::sizes::script_words;
 pub fn check(image: &[u8], events: &[u16], script: &[u16]) -> Checked {
     let grammar = match test(image, events) {
         Ok(grammar) => grammar,
-        Err(number) => return Checked::from(number),
+        Err(refusal) => return Checked::from(refusal),
     };
     let n = events.len();
     let fits = n > 0 && script.len() == script_words(n);
     Checked {
-        number: 0,
+        refusal: 0.into(),
         yes: fits && follows(&grammar, events, 0, 0, script),
     }
 }

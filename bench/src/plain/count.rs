@@ -1,27 +1,30 @@
 //! `count`: for each pair rule of a cell, a loop over the splits.
 
 use super::{cell, low_first, test, Grammar};
-use crate::answers::Counted;
+use crate::answers::{Counted, Refusal};
 use crate::sizes::{cells, LIMIT};
 
 /// Refusals 1 to 8 and 10, or the table and the total.
 pub fn count(image: &[u8], events: &[u16], table: &mut [u32]) -> Counted {
     match count_or_refuse(image, events, table) {
-        Ok(total) => Counted { number: 0, total },
-        Err(number) => Counted::from(number),
+        Ok(total) => Counted {
+            refusal: 0.into(),
+            total,
+        },
+        Err(refusal) => Counted::from(refusal),
     }
 }
 
-fn count_or_refuse(image: &[u8], events: &[u16], table: &mut [u32]) -> Result<u32, u8> {
+fn count_or_refuse(image: &[u8], events: &[u16], table: &mut [u32]) -> Result<u32, Refusal> {
     let grammar = test(image, events)?;
     test_table(&grammar, events, table)?;
     Ok(fill(&grammar, events, table))
 }
 
 /// Refusal 10.
-pub fn test_table(grammar: &Grammar, events: &[u16], table: &[u32]) -> Result<(), u8> {
+pub fn test_table(grammar: &Grammar, events: &[u16], table: &[u32]) -> Result<(), Refusal> {
     if table.len() < grammar.symbols * cells(events.len()) {
-        return Err(10);
+        return Err(10.into());
     }
     Ok(())
 }

@@ -1,7 +1,7 @@
 //! `judge`: a loop over all pair rules at each split.
 
 use super::{cell, low_first, test, Grammar};
-use crate::answers::Judged;
+use crate::answers::{Judged, Refusal};
 use crate::sizes::cells;
 
 /// The pair rules, a column for each part, every symbol as the word of its one bit: of the plain
@@ -23,16 +23,16 @@ struct Fired {
 pub fn judge(image: &[u8], events: &[u16], chart: &mut [u64]) -> Judged {
     let grammar = match test(image, events) {
         Ok(grammar) => grammar,
-        Err(number) => return Judged::from(number),
+        Err(refusal) => return Judged::from(refusal),
     };
     let n = events.len();
     if chart.len() < cells(n) {
-        return Judged::from(9);
+        return Judged::from(Refusal::from(9));
     }
     let firings = fill(&grammar, events, chart);
     let used = &chart[..cells(n)];
     Judged {
-        number: 0,
+        refusal: 0.into(),
         admitted: n > 0 && chart[cell(0, n)] & 1 == 1,
         items: used.iter().map(|w| w.count_ones() as u64).sum(),
         firings,

@@ -11,6 +11,7 @@ pub use count::count;
 pub use judge::judge;
 pub use reading::reading;
 
+use crate::answers::Refusal;
 use crate::sizes::MOST_EVENTS;
 
 /// An accepted image: its number of symbols and its rules, three bytes each.
@@ -21,40 +22,39 @@ struct Grammar<'a> {
 }
 
 /// Refusals 1 to 8, in their order.
-fn test<'a>(image: &'a [u8], events: &[u16]) -> Result<Grammar<'a>, u8> {
+fn test<'a>(image: &'a [u8], events: &[u16]) -> Result<Grammar<'a>, Refusal> {
     let grammar = test_image(image)?;
     if events.len() > MOST_EVENTS {
-        return Err(8);
+        return Err(8.into());
     }
     Ok(grammar)
 }
 
-fn test_image(image: &[u8]) -> Result<Grammar<'_>, u8> {
+fn test_image(image: &[u8]) -> Result<Grammar<'_>, Refusal> {
     if image.len() < 10 {
-        return Err(1);
+        return Err(1.into());
     }
     if &image[..3] != b"ESG" {
-        return Err(2);
+        return Err(2.into());
     }
     if low_first(image, 3) != 1 {
-        return Err(3);
+        return Err(3.into());
     }
     let symbols = image[5];
     let leaves = low_first(image, 6) as usize;
     let pairs = low_first(image, 8) as usize;
     if !(1..=64).contains(&symbols) || leaves > 512 || pairs > 256 {
-        return Err(4);
+        return Err(4.into());
     }
     if image.len() != 10 + 3 * (leaves + pairs) {
-        return Err(5);
+        return Err(5.into());
     }
     let (leaves, pairs) = image[10..].split_at(3 * leaves);
-    if leaves.iter().step_by(3).any(|&s| s >= symbols) || pairs.iter().any(|&s| s >= symbols) {
-        return Err(6);
+    if let Some(rule) = first_unfit(leaves, pairs, symbols) {
+        return Err(Refusal { number: 6, rule });
     }
-    // An event stands low byte first: the high byte is compared before it.
-    if !rising(leaves, |r| [r[0], r[2], r[1]]) || !rising(pairs, |r| [r[0], r[1], r[2]]) {
-        return Err(7);
+    if let Some(rule) = first_low(leaves, pairs) {
+        return Err(Refusal { number: 7, rule });
     }
     Ok(Grammar {
         symbols: symbols as usize,
@@ -68,12 +68,27 @@ fn low_first(bytes: &[u8], at: usize) -> u16 {
     u16::from_le_bytes([bytes[at], bytes[at + 1]])
 }
 
-fn rising(rules: &[u8], key: fn(&[u8]) -> [u8; 3]) -> bool {
+/// The first rule with a symbol that is too large, event rules first.
+fn first_unfit(leaves: &[u8], pairs: &[u8], symbols: u8) -> Option<u16> {
+    let leaf = leaves.iter().step_by(3).position(|&s| s >= symbols);
+    let pair = || pairs.iter().position(|&s| s >= symbols);
+    leaf.or_else(|| Some((leaves.len() + pair()?) / 3))
+        .map(|rule| rule as u16)
+}
+
+/// The first rule that isn't above its predecessor, event rules first. An event stands low byte
+/// first: the high byte is compared before it.
+fn first_low(leaves: &[u8], pairs: &[u8]) -> Option<u16> {
+    let leaf = first_not_rising(leaves, |r| [r[0], r[2], r[1]]);
+    let pair = || first_not_rising(pairs, |r| [r[0], r[1], r[2]]);
+    leaf.or_else(|| Some(leaves.len() / 3 + pair()?))
+        .map(|rule| rule as u16)
+}
+
+fn first_not_rising(rules: &[u8], key: fn(&[u8]) -> [u8; 3]) -> Option<usize> {
     let next = rules.chunks_exact(3).skip(1);
-    rules
-        .chunks_exact(3)
-        .zip(next)
-        .all(|(a, b)| key(a) < key(b))
+    let mut pairs = rules.chunks_exact(3).zip(next);
+    Some(1 + pairs.position(|(a, b)| key(a) >= key(b))?)
 }
 
 /// The number of a cell in chart and table.

@@ -2,13 +2,20 @@
 
 use super::count::{fill, test_table};
 use super::{cell, low_first, test, Grammar};
+use crate::answers::Refusal;
 use crate::sizes::{script_words, LIMIT};
 
 /// Refusals 1 to 8 and 10 to 13, or 0 with the table and the script of reading number k.
-pub fn reading(image: &[u8], events: &[u16], k: u32, table: &mut [u32], script: &mut [u16]) -> u8 {
+pub fn reading(
+    image: &[u8],
+    events: &[u16],
+    k: u32,
+    table: &mut [u32],
+    script: &mut [u16],
+) -> Refusal {
     match read_or_refuse(image, events, k, table, script) {
-        Ok(()) => 0,
-        Err(number) => number,
+        Ok(()) => 0.into(),
+        Err(refusal) => refusal,
     }
 }
 
@@ -18,16 +25,17 @@ fn read_or_refuse(
     k: u32,
     table: &mut [u32],
     script: &mut [u16],
-) -> Result<(), u8> {
+) -> Result<(), Refusal> {
     let grammar = test(image, events)?;
     test_table(&grammar, events, table)?;
     let words = script_words(events.len());
     if script.len() < words {
-        return Err(11);
+        return Err(11.into());
     }
     let total = fill(&grammar, events, table);
     if k >= total {
-        return Err(if total as u64 == LIMIT { 13 } else { 12 });
+        let number = if total as u64 == LIMIT { 13 } else { 12 };
+        return Err(number.into());
     }
     let source = Source {
         grammar,

@@ -38,8 +38,8 @@ fn long(events: usize) -> [Case<Checked>; 3] {
 fn middle(input: Input) -> Input {
     let needs = input.needs();
     let (mut table, mut script) = (vec![0; needs.table], vec![0; needs.script]);
-    let number = plain::reading(&input.image, &input.events, MIDDLE, &mut table, &mut script);
-    assert_eq!(number, 0, "{}: the middle reading", input.title());
+    let read = plain::reading(&input.image, &input.events, MIDDLE, &mut table, &mut script);
+    assert_eq!(read.number, 0, "{}: the middle reading", input.title());
     Input { script, ..input }
 }
 
@@ -75,5 +75,12 @@ fn others() -> Vec<Case<Checked>> {
 }
 
 fn checked(input: Input, yes: bool) -> Case<Checked> {
-    Case::new(input, Words::default(), Checked { number: 0, yes })
+    Case::new(
+        input,
+        Words::default(),
+        Checked {
+            refusal: 0.into(),
+            yes,
+        },
+    )
 }

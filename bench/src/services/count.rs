@@ -88,7 +88,7 @@ fn counted(input: Input, total: u64, sum: u64) -> Case<Counted> {
         ..Words::default()
     };
     let told = Counted {
-        number: 0,
+        refusal: 0.into(),
         total: total as u32,
     };
     Case::new(input, written, told).knowing(move |lent| sum_of(&lent.table[..table]) == sum)

@@ -66,7 +66,7 @@ fn judged(input: Input, (admitted, items, firings): Told) -> Case<Judged> {
         ..Words::default()
     };
     let told = Judged {
-        number: 0,
+        refusal: 0.into(),
         admitted,
         items,
         firings,

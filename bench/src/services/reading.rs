@@ -3,12 +3,13 @@
 
 use super::compare_and_time;
 use crate::alike::{Alike, CHAIN, FULL};
+use crate::answers::Refusal;
 use crate::case::{at_fault, Case, Lent};
 use crate::records::{self, Input, Words, LENGTHS};
 use crate::sizes::splits;
 use crate::{ours, plain};
 
-type Reading = fn(&[u8], &[u16], u32, &mut [u32], &mut [u16]) -> u8;
+type Reading = fn(&[u8], &[u16], u32, &mut [u32], &mut [u16]) -> Refusal;
 
 const SIDES: [Reading; 2] = [ours::reading, plain::reading];
 
@@ -24,7 +25,7 @@ pub fn run(rounds: usize) {
 /// Half of the greatest number that a total is reported as.
 pub const MIDDLE: u32 = u32::MAX / 2;
 
-fn timed() -> Vec<Case<u8>> {
+fn timed() -> Vec<Case<Refusal>> {
     let long = |events| {
         [
             numbered(records::full(events), MIDDLE, FULL),
@@ -42,7 +43,7 @@ const STOPS: [u16; 22] = [
 ];
 
 /// Other rows of the specification, and refusals.
-fn others() -> Vec<Case<u8>> {
+fn others() -> Vec<Case<Refusal>> {
     let sevens = records::sevens;
     let mut one_stop = records::stops();
     one_stop.events.truncate(3);
@@ -65,13 +66,13 @@ fn others() -> Vec<Case<u8>> {
 }
 
 /// A reading whose script is known.
-fn written(input: Input, k: u32, script: &'static [u16]) -> Case<u8> {
+fn written(input: Input, k: u32, script: &'static [u16]) -> Case<Refusal> {
     let words = script.len();
     answered(input, k).knowing(move |lent| lent.script[..words] == *script)
 }
 
 /// A reading in a grammar that gives a script's number.
-fn numbered(input: Input, k: u32, grammar: Alike) -> Case<u8> {
+fn numbered(input: Input, k: u32, grammar: Alike) -> Case<Refusal> {
     let (Words { script, .. }, read) = (input.needs(), input.clone());
     answered(input, k).knowing(move |lent| {
         let script = &lent.script[..script];
@@ -80,25 +81,25 @@ fn numbered(input: Input, k: u32, grammar: Alike) -> Case<u8> {
     })
 }
 
-fn answered(input: Input, k: u32) -> Case<u8> {
+fn answered(input: Input, k: u32) -> Case<Refusal> {
     let written = Words {
         chart: 0,
         ..input.needs()
     };
-    Case::new(Input { k, ..input }, written, 0)
+    Case::new(Input { k, ..input }, written, 0.into())
 }
 
 /// A number that no reading has: the table is filled all the same.
-fn past(input: Input, k: u32, number: u8) -> Case<u8> {
+fn past(input: Input, k: u32, number: u8) -> Case<Refusal> {
     let written = Words {
         table: input.needs().table,
         ..Words::default()
     };
-    Case::new(Input { k, ..input }, written, number)
+    Case::new(Input { k, ..input }, written, number.into())
 }
 
 /// Too little room is found before a number that no reading has, the table's before the script's.
-fn short_of_room() -> [Case<u8>; 2] {
+fn short_of_room() -> [Case<Refusal>; 2] {
     let short = |table_less, number| {
         let mut input = records::stops();
         input.k = 1;

@@ -11,14 +11,16 @@ ghost use Rattle.readings.specs.Check.{CheckIs};
 #[no_mangle]
 pub extern "C" fn reader_test(
     image: &[u8],
+    rule: &mut u16,
     symbols: &mut usize,
     leaves: &mut usize,
     pairs: &mut usize,
 ) -> u8
     ensures { λ n. ⌜ TestedIs (imageRows (now (image .entry))) (decode (now (image .entry)))
-        (record { number = n; symbols = now (symbols .exit); leaves = now (leaves .exit); pairs = now (pairs .exit) }) ⌝ }
+        (record { number = n; rule = now (rule .exit); symbols = now (symbols .exit); leaves = now (leaves .exit); pairs = now (pairs .exit) }) ⌝ }
 {
     let tested = image::test_image(image);
+    *rule = tested.rule;
     *symbols = tested.symbols;
     *leaves = tested.leaves;
     *pairs = tested.pairs;
@@ -31,15 +33,17 @@ pub extern "C" fn reader_judge(
     image: &[u8],
     events: &[u16],
     chart: &mut [u64],
+    rule: &mut u16,
     admitted: &mut bool,
     items: &mut u64,
     firings: &mut u64,
 ) -> u8
     ensures { λ n. ⌜ JudgeIs (now (image .entry)) (now (events .entry)) (now (chart .entry))
-        (record { number = n; admitted = now (admitted .exit); items = now (items .exit); firings = now (firings .exit) })
+        (record { number = n; rule = now (rule .exit); admitted = now (admitted .exit); items = now (items .exit); firings = now (firings .exit) })
         (now (chart .exit)) ⌝ }
 {
     let judged = chart::judge(image, events, chart);
+    *rule = judged.rule;
     *admitted = judged.admitted;
     *items = judged.items;
     *firings = judged.firings;
@@ -52,12 +56,14 @@ pub extern "C" fn reader_count(
     image: &[u8],
     events: &[u16],
     table: &mut [u32],
+    rule: &mut u16,
     total: &mut u32,
 ) -> u8
     ensures { λ n. ⌜ CountIs (now (image .entry)) (now (events .entry)) (now (table .entry))
-        (record { number = n; total = now (total .exit) }) (now (table .exit)) ⌝ }
+        (record { number = n; rule = now (rule .exit); total = now (total .exit) }) (now (table .exit)) ⌝ }
 {
     let counted = readings::count(image, events, table);
+    *rule = counted.rule;
     *total = counted.total;
     counted.number
 }
@@ -70,20 +76,30 @@ pub extern "C" fn reader_reading(
     k: u32,
     table: &mut [u32],
     room: &mut [u16],
+    rule: &mut u16,
 ) -> u8
     ensures { λ n. ⌜ ReadingIs (now (image .entry)) (now (events .entry)) k (now (table .entry)) (now (room .entry))
-        (record { number = n }) (now (table .exit)) (now (room .exit)) ⌝ }
+        (record { number = n; rule = now (rule .exit) }) (now (table .exit)) (now (room .exit)) ⌝ }
 {
     let read = readings::reading(image, events, k, table, room);
+    *rule = read.rule;
     read.number
 }
 
 // Checks a script.
 #[no_mangle]
-pub extern "C" fn reader_check(image: &[u8], events: &[u16], script: &[u16], yes: &mut bool) -> u8
-    ensures { λ n. ⌜ CheckIs (now (image .entry)) (now (events .entry)) (now (script .entry)) (record { number = n; yes = now (yes .exit) }) ⌝ }
+pub extern "C" fn reader_check(
+    image: &[u8],
+    events: &[u16],
+    script: &[u16],
+    rule: &mut u16,
+    yes: &mut bool,
+) -> u8
+    ensures { λ n. ⌜ CheckIs (now (image .entry)) (now (events .entry)) (now (script .entry))
+        (record { number = n; rule = now (rule .exit); yes = now (yes .exit) }) ⌝ }
 {
     let checked = readings::check(image, events, script);
+    *rule = checked.rule;
     *yes = checked.yes;
     checked.number
 }

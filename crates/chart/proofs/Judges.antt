@@ -7,6 +7,7 @@ use mathlib.Core.List.{List}
 use Prim.Native.Nat.{ℕ, _≤_, _<_}
 use native.Mathlib.Nat.{lt-of-not-le, le-refl}
 use native.Mathlib.Decide.{ℕ-discrete, decLe}
+use native.Mathlib.Omega.{arith}
 use lib.ListN.{length, getD}
 use lib.Seq.{ext-getD}
 use Rattle.bits.specs.Truth.{Decides}
@@ -25,7 +26,9 @@ use Rattle.derivation.proofs.Columns.{cell-of}
 use Rattle.derivation.proofs.Bound.{firings-le}
 use Rattle.layout.specs.Layout.{decode}
 use Rattle.image.specs.Refusal.{First}
+use Rattle.image.specs.Image.{Names}
 use Rattle.image.proofs.Refusals.{first-only}
+use Rattle.image.proofs.Images.{names-same, names-none}
 use Rattle.chart.specs.declared.Judged.{Judged}
 use Rattle.chart.specs.Fill.{rd, Columns, onesTo}
 use Rattle.chart.specs.Judge.{judgeRows, Shows, Answered, JudgeIs}
@@ -59,10 +62,11 @@ module _ (g : Grammar) (ok : Sound g) (w c₀ c : List ℕ) (m : ℕ) (whole : C
 
 -- ---- what a refusal answers, and what success does
 module _ (b w c₀ c : List ℕ) (r : Judged) where
-  pub refusal : (n : ℕ) → n ≢ 0 → First (judgeRows b w c₀) n → r ≡ record { number = n; admitted = false; items = 0; firings = 0 } → c ≡ c₀
-      → JudgeIs b w c₀ r c
-  refusal n z p e k = record {
+  pub refusal : (n m : ℕ) → n ≢ 0 → First (judgeRows b w c₀) n → Names (decode b) n m
+      → r ≡ record { number = n; rule = m; admitted = false; items = 0; firings = 0 } → c ≡ c₀ → JudgeIs b w c₀ r c
+  refusal n m z p q e k = record {
     number = subst⁻¹ (First (judgeRows b w c₀)) (ap (λ (t : Judged). t .number) e) p;
+    rule = subst⁻¹ (λ (t : Judged). Names (decode b) (t .number) (t .rule)) e q;
     refused = λ _. record {
       admitted = ap (λ (t : Judged). t .admitted) e;
       items = ap (λ (t : Judged). t .items) e;
@@ -72,9 +76,10 @@ module _ (b w c₀ c : List ℕ) (r : Judged) where
     answered = λ y. absurd (z (ap (λ (t : Judged). t .number) (sym e) ∙ y));
   }
 
-  pub success : r .number ≡ 0 → First (judgeRows b w c₀) 0 → Answered (decode b) w c₀ r c → JudgeIs b w c₀ r c
-  success z p a = record {
+  pub success : r .number ≡ 0 → r .rule ≡ 0 → First (judgeRows b w c₀) 0 → Answered (decode b) w c₀ r c → JudgeIs b w c₀ r c
+  success z m p a = record {
     number = subst⁻¹ (First (judgeRows b w c₀)) z p;
+    rule = names-none (λ e. omega arith) (λ e. omega arith) m;
     refused = λ y. absurd (y z);
     answered = λ _. a;
   }
@@ -88,8 +93,8 @@ module _ (g : Grammar) (w c d : List ℕ) (p : Shows g w c) (q : Shows g w d) wh
   shows-only : (y : ℕ) → y < cells (length w) → getD c y 0 ≡ getD d y 0
   shows-only y h = let e = cell-of (length w) y h in rw (e .is) (cell-only (e .i) (e .k) (e .lt) (e .le))
 
-judged-eq : (r s : Judged) → r .number ≡ s .number → r .admitted ≡ s .admitted → r .items ≡ s .items → r .firings ≡ s .firings → r ≡ s
-judged-eq r s a b c d = λ i. record { number = a i; admitted = b i; items = c i; firings = d i }
+judged-eq : (r s : Judged) → r .number ≡ s .number → r .rule ≡ s .rule → r .admitted ≡ s .admitted → r .items ≡ s .items → r .firings ≡ s .firings → r ≡ s
+judged-eq r s a m b c d = λ i. record { number = a i; rule = m i; admitted = b i; items = c i; firings = d i }
 
 module _ (b w c₀ : List ℕ) (r s : Judged) (c d : List ℕ) where
   chart-only : Answered (decode b) w c₀ r c → Answered (decode b) w c₀ s d → c ≡ d
@@ -106,16 +111,19 @@ module _ (b w c₀ : List ℕ) (r s : Judged) (c d : List ℕ) where
       e : r .number ≡ s .number
       e = first-only (p .number) (q .number)
 
+      f : r .rule ≡ s .rule
+      f = names-same e (p .rule) (q .rule)
+
       go : Dec (r .number ≡ 0) → (r ≡ s) × (c ≡ d)
       go (yes z) =
           let x = p .answered z in
           let y = q .answered (sym e ∙ z) in (
-            judged-eq r s e (decides-only (Admitted (decode b) w) (r .admitted) (s .admitted) (x .admitted) (y .admitted)) (x .items ∙ sym (y .items)) (x .firings ∙ sym (y .firings)),
+            judged-eq r s e f (decides-only (Admitted (decode b) w) (r .admitted) (s .admitted) (x .admitted) (y .admitted)) (x .items ∙ sym (y .items)) (x .firings ∙ sym (y .firings)),
             chart-only x y,
           )
       go (no z) =
           let x = p .refused z in
           let y = q .refused (λ n. z (e ∙ n)) in (
-            judged-eq r s e (x .admitted ∙ sym (y .admitted)) (x .items ∙ sym (y .items)) (x .firings ∙ sym (y .firings)),
+            judged-eq r s e f (x .admitted ∙ sym (y .admitted)) (x .items ∙ sym (y .items)) (x .firings ∙ sym (y .firings)),
             x .kept ∙ sym (y .kept),
           )

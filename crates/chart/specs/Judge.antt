@@ -14,7 +14,7 @@ use Rattle.derivation.specs.Numbering.{Tells}
 use Rattle.derivation.specs.Chart.{cellAt, cells, items, firings, firingsBound}
 use Rattle.layout.specs.Layout.{decode}
 use Rattle.image.specs.Refusal.{Row, _unless_, First}
-use Rattle.image.specs.Image.{recordRows}
+use Rattle.image.specs.Image.{recordRows, Names}
 use Rattle.chart.specs.declared.Judged.{Judged}
 
 -- refusals 1 to 9
@@ -28,7 +28,7 @@ judgeRows b w chart = recordRows b (length w) ++ chartRows (length w) (length ch
 pub record Shows (g : Grammar) (w chart : List ℕ) : Type 0 where
   pub at : (A i k : ℕ) → i < k → k ≤ length w → Tells g w A i k (bit (getD chart (cellAt i k) 0) A)
 
--- a refusal: zeros, and the chart as it was
+-- a refusal: zeros but for the rule, and the chart as it was
 pub record Refused (before : List ℕ) (r : Judged) (after : List ℕ) : Type 0 where
   pub admitted : r .admitted ≡ false
   pub items : r .items ≡ 0
@@ -47,5 +47,6 @@ pub record Answered (g : Grammar) (w before : List ℕ) (r : Judged) (after : Li
 
 pub record JudgeIs (b w before : List ℕ) (r : Judged) (after : List ℕ) : Type 0 where
   pub number : First (judgeRows b w before) (r .number)
+  pub rule : Names (decode b) (r .number) (r .rule)
   pub refused : r .number ≢ 0 → Refused before r after
   pub answered : r .number ≡ 0 → Answered (decode b) w before r after

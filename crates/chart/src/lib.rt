@@ -11,19 +11,21 @@ ghost use Rattle.derivation.specs.Chart.{cells};
 ghost use Rattle.chart.specs.Fill.{rd, onesTo};
 ghost use Rattle.chart.specs.Judge.{JudgeIs};
 
-// What judging answers: a refusal's number with zeros, or 0 with the verdict, the items and the firings.
+// What judging answers: a refusal with zeros, or 0 with the verdict, the items and the firings. The rule is that of 6 and 7, else 0.
 pub struct Judged {
     pub number: u8,
+    pub rule: u16,
     pub admitted: bool,
     pub items: u64,
     pub firings: u64,
 }
 
-fn refused(number: u8) -> Judged
-    ensures { λ r. ⌜ r ≡ record { number = number; admitted = false; items = 0; firings = 0 } ⌝ }
+fn refused(number: u8, rule: u16) -> Judged
+    ensures { λ r. ⌜ r ≡ record { number = number; rule = rule; admitted = false; items = 0; firings = 0 } ⌝ }
 {
     Judged {
         number: number,
+        rule: rule,
         admitted: false,
         items: 0,
         firings: 0,
@@ -66,17 +68,18 @@ pub fn judge(image: &[u8], events: &[u16], chart: &mut [u64]) -> Judged
     let tested = image::test_record(image, n);
     let early = tested.number;
     if early != 0 {
-        return refused(early);
+        return refused(early, tested.rule);
     }
     let need = derivation::cell_count(n);
     if chart.len() < need {
-        return refused(9);
+        return refused(9, 0);
     }
     let firings = fill::fill_chart(image, events, chart);
     let admitted = top_has(chart, n);
     let items = items_of(chart, need);
     Judged {
         number: 0,
+        rule: 0,
         admitted: admitted,
         items: items,
         firings: firings,

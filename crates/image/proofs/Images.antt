@@ -1,24 +1,55 @@
--- Laws of the two tests: one answer only, what the answer 0 gives, and how a service goes on from them.
+-- Laws of the two tests: one answer only, which rule is named, what the answer 0 gives, and how a service goes on from them.
 -- Assumes nothing.
 use Prim.Native.Nat.{ℕ, _≤_}
+use native.Mathlib.Nat.{eq-or-lt-of-le}
 use native.Mathlib.Decide.{ℕ-discrete}
 use native.Mathlib.Omega.{arith}
-use mathlib.Core.Path.{_≡_, sym, _∙_, subst}
-use mathlib.Core.Logic.{_≢_}
+use mathlib.Core.Path.{_≡_, refl, sym, _∙_, subst, subst₂}
+use mathlib.Core.Logic.{_≢_, ⊎-elim}
 use mathlib.Core.List.{List, _++_}
 use lib.ListN.{length}
-use Rattle.derivation.specs.Grammar.{Grammar}
+use Rattle.bits.proofs.Truths.{lt-or-ge}
+use Rattle.derivation.specs.Grammar.{Grammar, ruleCount}
+use Rattle.derivation.specs.Sound.{SymbolsFit, Rises}
+use Rattle.rules.specs.Fault.{FirstFault}
 use Rattle.image.specs.declared.Tested.{Tested}
-use Rattle.image.specs.Refusal.{Row, FirstOf, First}
+use Rattle.image.specs.Refusal.{Row, First}
 use Rattle.layout.specs.Layout.{rulesFrom, decode, Whole}
-use Rattle.image.specs.Image.{mostEvents, byteRows, ruleRows, eventRows, imageRows, recordRows, Gives, GivesCounts, TestedIs, Accepted, longestImage}
-use Rattle.image.proofs.Refusals.{AllHold, Positive, none, pass, first-only, first-zero, all-front, all-back, first-hit, first-pass}
+use Rattle.image.specs.Image.{mostEvents, byteRows, ruleRows, eventRows, imageRows, recordRows, Ranged, Names, Gives, GivesCounts, TestedIs, Accepted, longestImage}
+use Rattle.image.proofs.Refusals.{AllHold, Positive, none, pass, first-only, first-zero, all-hold, all-front, all-back, first-hit, first-pass, past-zero, under}
 use Rattle.layout.proofs.Decoded.{leaf-count, pair-count, symbol-count}
 
+-- ---- the rule that is named: one only, and none with a number other than 6 and 7
+-- of two first faults the earlier one would pass, as all before the later one do
+pub fault-only : {m : ℕ} {P : ℕ → Type 0} {r s : ℕ} → FirstFault m P r → FirstFault m P s → r ≡ s
+fault-only {r = r} {s = s} p q =
+    ⊎-elim (λ l. absurd (p .fault (q .before r l)))
+    (λ l. ⊎-elim (λ e. sym e) (λ l. absurd (q .fault (p .before s l))) (eq-or-lt-of-le l))
+    (lt-or-ge r s)
+
+pub names-only : {g : Grammar} {n r s : ℕ} → Names g n r → Names g n s → r ≡ s
+names-only {g} {n} {r} {s} p q = elim (ℕ-discrete n 6) [
+  | yes a ↦ fault-only (p .unfit a) (q .unfit a)
+  | no a ↦ elim (ℕ-discrete n 7) [ yes b ↦ fault-only (p .low b) (q .low b) | no b ↦ p .other a b ∙ sym (q .other a b) ]
+]
+
+pub names-same : {g : Grammar} {n k r s : ℕ} → n ≡ k → Names g n r → Names g k s → r ≡ s
+names-same {g} {n} {k} {r} {s} e p q = names-only (subst (λ (x : ℕ). Names g x r) e p) q
+
+pub names-none : {g : Grammar} {n r : ℕ} → n ≢ 6 → n ≢ 7 → r ≡ 0 → Names g n r
+names-none a b z = record { unfit = λ e. absurd (a e); low = λ e. absurd (b e); other = λ _ _. z }
+
+pub names-unfit : {g : Grammar} {r : ℕ} → FirstFault (ruleCount g) (SymbolsFit g) r → Names g 6 r
+names-unfit f = record { unfit = λ _. f; low = λ e. absurd (omega arith); other = λ a _. absurd (a refl) }
+
+pub names-low : {g : Grammar} {r : ℕ} → FirstFault (ruleCount g) (Rises g) r → Names g 7 r
+names-low f = record { unfit = λ e. absurd (omega arith); low = λ _. f; other = λ _ a. absurd (a refl) }
+
 -- ---- one answer only
-gives-only : (t u : Tested) (N L B : ℕ) → t .number ≡ u .number → Gives t N L B → Gives u N L B → t ≡ u
-gives-only t u N L B e p q = λ i. record {
+gives-only : (t u : Tested) (N L B : ℕ) → t .number ≡ u .number → t .rule ≡ u .rule → Gives t N L B → Gives u N L B → t ≡ u
+gives-only t u N L B e f p q = λ i. record {
   number = e i;
+  rule = f i;
   symbols = (p .symbols ∙ sym (q .symbols)) i;
   leaves = (p .leaves ∙ sym (q .leaves)) i;
   pairs = (p .pairs ∙ sym (q .pairs)) i;
@@ -30,37 +61,48 @@ tested-only {t = t} {u = u} p q = go (ℕ-discrete (t .number) 0)
     e : t .number ≡ u .number
     e = first-only (p .number) (q .number)
 
+    f : t .rule ≡ u .rule
+    f = names-same e (p .rule) (q .rule)
+
     go : Dec (t .number ≡ 0) → t ≡ u
-    go (yes z) = gives-only t u _ _ _ e (p .accepted z) (q .accepted (sym e ∙ z))
-    go (no z) = gives-only t u _ _ _ e (p .refused z) (q .refused (λ w. z (e ∙ w)))
+    go (yes z) = gives-only t u _ _ _ e f (p .accepted z) (q .accepted (sym e ∙ z))
+    go (no z) = gives-only t u _ _ _ e f (p .refused z) (q .refused (λ w. z (e ∙ w)))
 
 -- ---- what a test answers that refuses
-pub refusal : (rows : List Row) (g : Grammar) (t : Tested) (n : ℕ) → n ≢ 0 → First rows n → (t .number ≡ n) × Gives t 0 0 0 → TestedIs rows g t
-refusal rows g t n z p q = record {
+pub refusal : (rows : List Row) (g : Grammar) (t : Tested) (n r : ℕ) → n ≢ 0 → First rows n → Names g n r
+    → (t .number ≡ n) × (t .rule ≡ r) × Gives t 0 0 0 → TestedIs rows g t
+refusal rows g t n r z p m q = record {
   number = subst (First rows) (sym (q .0)) p;
+  rule = subst₂ (Names g) (sym (q .0)) (sym (q .1)) m;
   accepted = λ e. absurd (z (sym (q .0) ∙ e));
-  refused = λ _. q .1;
+  refused = λ _. q .2;
 }
 
 -- and what one answers that accepts
-pub acceptance : (rows : List Row) (g : Grammar) (t : Tested) → First rows 0 → (t .number ≡ 0) × GivesCounts t g → TestedIs rows g t
+pub acceptance : (rows : List Row) (g : Grammar) (t : Tested) → First rows 0 → (t .number ≡ 0) × (t .rule ≡ 0) × GivesCounts t g → TestedIs rows g t
 acceptance rows g t p q = record {
   number = subst (First rows) (sym (q .0)) p;
-  accepted = λ _. q .1;
+  rule = names-none (λ e. omega (arith, q .0)) (λ e. omega (arith, q .0)) (q .1);
+  accepted = λ _. q .2;
   refused = λ z. absurd (z (q .0));
 }
 
--- the number 0 says that every demand holds
-pub all-hold : (rows : List Row) → Positive rows → (n : ℕ) → n ≡ 0 → First rows n → AllHold rows
-all-hold rows z n e p = first-zero rows z (subst (FirstOf rows) e (p .is))
-
 -- ---- within the test of an image
+-- a refusal by the bytes names no rule
+pub bytes-name : (b : List ℕ) {g : Grammar} (n : ℕ) → First (byteRows b) n → Names g n 0
+bytes-name b n p =
+    let l = under 6 (byteRows b) n (omega arith) p in
+    names-none (λ e. omega arith) (λ e. omega arith) refl
+
 module _ (b : List ℕ) (n : ℕ) (e : n ≡ 0) (p : First (byteRows b) n) where
   pub bytes-hold : AllHold (byteRows b)
   bytes-hold = all-hold (byteRows b) (omega arith) n e p
 
   pub whole : Whole b
   whole = record { long = bytes-hold .0; sized = bytes-hold .1 .1 .1 .1 .0 }
+
+  pub ranged : Ranged b
+  ranged = bytes-hold .1 .1 .1 .0
 
   -- past the bytes the rules decide
   pub by-rules : {m : ℕ} → First (ruleRows (decode b)) m → First (imageRows b) m
@@ -126,4 +168,4 @@ module _ (rows more : List Row) {g : Grammar} (t : Tested) (p : TestedIs rows g 
   refused-first z = first-hit rows more z (p .number)
 
   pub accepted-first : Positive rows → t .number ≡ 0 → {m : ℕ} → First more m → First (rows ++ more) m
-  accepted-first o e q = first-pass rows more (all-hold rows o (t .number) e (p .number)) q
+  accepted-first o e q = past-zero rows more o (t .number) e (p .number) q

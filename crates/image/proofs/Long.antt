@@ -3,15 +3,17 @@
 use Prim.Native.Nat.{ℕ, _+_, _*_, _<_}
 use native.Mathlib.Omega.{arith}
 use mathlib.Core.Path.{_≡_, sym, ap₂, _∙_}
-use mathlib.Core.Logic.{inl, inr}
+use mathlib.Core.Logic.{inl, inr, _≢_}
 use mathlib.Core.List.{List, _∷_}
 use lib.ListN.{length, take}
 use lib.Seq.{getD-take, length-take-le}
+use Rattle.derivation.specs.Grammar.{Grammar}
 use Rattle.image.specs.declared.Tested.{Tested}
 use Rattle.image.specs.Refusal.{Row, _unless_, FirstOf, First}
 use Rattle.layout.specs.Layout.{headerBytes, byteAt, wordAt, rulesFrom, decode, Sized}
-use Rattle.image.specs.Image.{Marked, Ranged, imageRows, TestedIs, longestImage}
-use Rattle.image.proofs.Images.{tested-accepted, accepted-short}
+use Rattle.image.specs.Image.{Marked, Ranged, byteRows, ruleRows, imageRows, Names, TestedIs, longestImage}
+use Rattle.image.proofs.Refusals.{alone, under}
+use Rattle.image.proofs.Images.{names-none, tested-accepted, accepted-short}
 
 -- two tables, row by row: where a demand holds in both the rest decides
 carry : {k n : ℕ} {P Q : Type 0} {rows more : List Row} → (P → Q) → (Q → P) → (P → First rows n → First more n)
@@ -58,6 +60,14 @@ begins-alike b d n l m e p =
     carry (ranged-as b d e) (ranged-as d b f) (λ r.
     halt (not-sized b l r) (not-sized d m (ranged-as b d e r)))))) p
 
+-- they are refused by their bytes, and so no rule is named
+pub long-names : (b : List ℕ) (n r : ℕ) → longestImage < length b → First (imageRows b) n → Names (decode b) n r → {g : Grammar} → Names g n r
+long-names b n r l p m =
+    let s = under 6 (byteRows b) n (omega arith) (alone (byteRows b) (ruleRows (decode b)) n (λ h. not-sized b l (h .1 .1 .1 .0) (h .1 .1 .1 .1 .0)) p) in
+    let six : n ≢ 6 = λ e. omega arith in
+    let seven : n ≢ 7 = λ e. omega arith in
+    names-none six seven (m .other six seven)
+
 -- nobody need read more than 2,315 bytes of an image: the test of those is the test of all
 pub first-bytes : (b : List ℕ) (t : Tested) → longestImage < length b
     → TestedIs (imageRows (take (longestImage + 1) b)) (decode (take (longestImage + 1) b)) t → TestedIs (imageRows b) (decode b) t
@@ -66,6 +76,7 @@ first-bytes b t l p =
     let s : length d ≡ longestImage + 1 = length-take-le (longestImage + 1) b (omega arith) in
     record {
       number = begins-alike d b (t .number) (omega arith) l (λ k h. getD-take (longestImage + 1) b k 0 (omega arith)) (p .number);
+      rule = long-names d (t .number) (t .rule) (omega arith) (p .number) (p .rule);
       accepted = λ e. absurd (omega (arith, accepted-short d (tested-accepted d t p e)));
       refused = p .refused;
     }

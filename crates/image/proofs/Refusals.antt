@@ -1,10 +1,11 @@
--- Laws of a refusal table: it admits one answer only; two tables, one after the other; what the answer 0 says.
+-- Laws of a refusal table: it admits one answer only; what the answer 0 says; two tables, one after the other; which numbers one can give.
 -- Assumes nothing.
-use Prim.Native.Nat.{ℕ, _<_}
-use mathlib.Core.Path.{_≡_, refl, sym, _∙_}
-use mathlib.Core.Logic.{inl, inr, _≢_}
+use Prim.Native.Nat.{ℕ, _≤_, _<_}
+use mathlib.Core.Path.{_≡_, refl, sym, _∙_, subst}
+use mathlib.Core.Logic.{_⊎_, inl, inr, _≢_, ⊎-elim}
 use mathlib.Core.List.{List, [], _∷_, _++_}
 use native.Mathlib.Nat.{lt-irrefl}
+use native.Mathlib.Omega.{arith}
 use Rattle.image.specs.Refusal.{Row, _unless_, FirstOf, First}
 
 -- the three ways to an answer
@@ -43,6 +44,10 @@ first-zero [] z p = tt
 first-zero ((k unless P) ∷ rows) z (inl p) = absurd (lt-irrefl 0 (rw (← (p .1)) at (z .0)))
 first-zero ((k unless P) ∷ rows) z (inr p) = (p .0, first-zero rows (z .1) (p .1))
 
+-- the number 0 says that every demand holds
+pub all-hold : (rows : List Row) → Positive rows → (n : ℕ) → n ≡ 0 → First rows n → AllHold rows
+all-hold rows z n e p = first-zero rows z (subst (FirstOf rows) e (p .is))
+
 -- two tables, one after the other, ask what the first asks
 pub all-front : (rows more : List Row) → AllHold (rows ++ more) → AllHold rows
 all-front [] more h = tt
@@ -68,3 +73,59 @@ first-hit rows more {n} z p = record { is = hit rows more n z (p .is) }
 
 pub first-pass : (rows more : List Row) {n : ℕ} → AllHold rows → First more n → First (rows ++ more) n
 first-pass rows more {n} h p = record { is = past rows more n h (p .is) }
+
+pub past-zero : (rows more : List Row) → Positive rows → (r : ℕ) → r ≡ 0 → First rows r → {m : ℕ} → First more m → First (rows ++ more) m
+past-zero rows more z r e p q = first-pass rows more (all-hold rows z r e p) q
+
+-- the answer 0 of both is the answer 0 of each
+zeros : (rows more : List Row) → Positive rows → FirstOf (rows ++ more) 0 → FirstOf rows 0 × FirstOf more 0
+zeros [] more z p = (refl, p)
+zeros ((k unless P) ∷ rows) more z (inl p) = absurd (omega (arith, z .0, p .1))
+zeros ((k unless P) ∷ rows) more z (inr p) = let q = zeros rows more (z .1) (p .1) in (inr (p .0, q .0), q .1)
+
+pub early-rows : (rows more : List Row) → Positive rows → First (rows ++ more) 0 → First rows 0
+early-rows rows more z p = record { is = zeros rows more z (p .is) .0 }
+
+pub late-rows : (rows more : List Row) → Positive rows → First (rows ++ more) 0 → First more 0
+late-rows rows more z p = record { is = zeros rows more z (p .is) .1 }
+
+-- a table that does not hold decides alone
+lone : (rows more : List Row) (n : ℕ) → (AllHold rows → ⊥) → FirstOf (rows ++ more) n → FirstOf rows n
+lone [] more n h p = absurd (h tt)
+lone ((k unless P) ∷ rows) more n h (inl p) = inl p
+lone ((k unless P) ∷ rows) more n h (inr p) = inr (p .0, lone rows more n (λ a. h (p .0, a)) (p .1))
+
+pub alone : (rows more : List Row) (n : ℕ) → (AllHold rows → ⊥) → First (rows ++ more) n → First rows n
+alone rows more n h p = record { is = lone rows more n h (p .is) }
+
+-- behind the same rows
+follow : (rows more rest : List Row) (n : ℕ) → (FirstOf more n → FirstOf rest n) → FirstOf (rows ++ more) n → FirstOf (rows ++ rest) n
+follow [] more rest n f p = f p
+follow ((k unless P) ∷ rows) more rest n f (inl p) = inl p
+follow ((k unless P) ∷ rows) more rest n f (inr p) = inr (p .0, follow rows more rest n f (p .1))
+
+pub behind : (rows more rest : List Row) (n : ℕ) → (FirstOf more n → FirstOf rest n) → First (rows ++ more) n → First (rows ++ rest) n
+behind rows more rest n f p = record { is = follow rows more rest n f (p .is) }
+
+-- ---- which numbers a table can give
+-- every number of a table is below m
+abbrev pub Under : ℕ → List Row → Type 0
+Under m [] = 0 < m
+Under m ((k unless P) ∷ rows) = (k < m) × Under m rows
+
+lower : (m : ℕ) (rows : List Row) (n : ℕ) → Under m rows → FirstOf rows n → n < m
+lower m [] n u p = omega (arith, p)
+lower m ((k unless P) ∷ rows) n u (inl p) = omega (arith, p .1, u .0)
+lower m ((k unless P) ∷ rows) n u (inr p) = lower m rows n (u .1) (p .1)
+
+pub under : (m : ℕ) (rows : List Row) (n : ℕ) → Under m rows → First rows n → n < m
+under m rows n u p = lower m rows n u (p .is)
+
+-- an answer that is not a number of the first table comes from the second
+gone : (rows more : List Row) (n m : ℕ) → Under m rows → Positive rows → (n ≡ 0) ⊎ (m ≤ n) → FirstOf (rows ++ more) n → FirstOf rows 0
+gone [] more n m u z h p = refl
+gone ((k unless P) ∷ rows) more n m u z h (inl p) = absurd (⊎-elim (λ (e : n ≡ 0). omega (arith, z .0, p .1)) (λ (l : m ≤ n). omega (arith, u .0, p .1)) h)
+gone ((k unless P) ∷ rows) more n m u z h (inr p) = inr (p .0, gone rows more n m (u .1) (z .1) h (p .1))
+
+pub reached : (rows more : List Row) (n m : ℕ) → Under m rows → Positive rows → (n ≡ 0) ⊎ (m ≤ n) → First (rows ++ more) n → First rows 0
+reached rows more n m u z h p = record { is = gone rows more n m u z h (p .is) }

@@ -8,8 +8,10 @@ use lib.ListN.{length}
 use Rattle.bits.specs.Truth.{Every}
 use Rattle.derivation.specs.Grammar.{Grammar, leafCount, pairCount, ruleCount}
 use Rattle.derivation.specs.Sound.{mostLeaves, mostPairs, InRange, SymbolsFit, Rises, Sound}
+use Rattle.rules.specs.Fault.{FirstFault}
 use Rattle.image.specs.Refusal.{Row, _unless_, First}
 use Rattle.layout.specs.Layout.{headerBytes, byteAt, versionIn, symbolsIn, leavesIn, pairsIn, Sized, Whole, decode}
+use Rattle.image.specs.declared.Refusal.{Refusal}
 use Rattle.image.specs.declared.Tested.{Tested}
 
 -- ---- the demands
@@ -58,7 +60,18 @@ imageRows b = byteRows b ++ ruleRows (decode b)
 abbrev pub recordRows : List ℕ → ℕ → List Row
 recordRows b n = imageRows b ++ eventRows n
 
--- ---- what a test by such rows answers: the first that applies with zeros, or 0 with N, L and B
+-- ---- the rule that an answer names: with 6 and 7 the first of all rules of which the refusal's own demand fails, with any other number 0
+pub record Names (g : Grammar) (number rule : ℕ) : Type 0 where
+  pub unfit : number ≡ 6 → FirstFault (ruleCount g) (SymbolsFit g) rule
+  pub low : number ≡ 7 → FirstFault (ruleCount g) (Rises g) rule
+  pub other : number ≢ 6 → number ≢ 7 → rule ≡ 0
+
+-- what is answered by rows over the rules of g: the first number that applies, and the rule that it names
+pub record RefusalIs (rows : List Row) (g : Grammar) (r : Refusal) : Type 0 where
+  pub number : First rows (r .number)
+  pub rule : Names g (r .number) (r .rule)
+
+-- ---- what a test by such rows answers: the first that applies with zeros, but for the rule, or 0 with N, L and B
 pub record Gives (t : Tested) (N L B : ℕ) : Type 0 where
   pub symbols : t .symbols ≡ N
   pub leaves : t .leaves ≡ L
@@ -70,6 +83,7 @@ GivesCounts t g = Gives t (g .symbols) (leafCount g) (pairCount g)
 
 pub record TestedIs (rows : List Row) (g : Grammar) (t : Tested) : Type 0 where
   pub number : First rows (t .number)
+  pub rule : Names g (t .number) (t .rule)
   pub accepted : t .number ≡ 0 → GivesCounts t g
   pub refused : t .number ≢ 0 → Gives t 0 0 0
 

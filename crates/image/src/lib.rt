@@ -14,19 +14,27 @@ pub const MOST_EVENTS: usize = 96;
 pub const LONGEST_IMAGE: usize = layout::HEADER_BYTES
     + 3 * (refuse::MOST_LEAVES + refuse::MOST_PAIRS);
 
-// What a test answers: a refusal's number with zeros, or 0 with N, L and B.
+// The number of a refusal, or 0, and the first rule at fault: that of 6 and 7, with every other number 0.
+pub struct Refusal {
+    pub number: u8,
+    pub rule: u16,
+}
+
+// What a test answers: a refusal with zeros, or 0 with N, L and B.
 pub struct Tested {
     pub number: u8,
+    pub rule: u16,
     pub symbols: usize,
     pub leaves: usize,
     pub pairs: usize,
 }
 
-fn refused(number: u8) -> Tested
-    ensures { λ t. ⌜ (t .number ≡ number) × Gives t 0 0 0 ⌝ }
+fn refused(number: u8, rule: u16) -> Tested
+    ensures { λ t. ⌜ (t .number ≡ number) × (t .rule ≡ rule) × Gives t 0 0 0 ⌝ }
 {
     Tested {
         number: number,
+        rule: rule,
         symbols: 0,
         leaves: 0,
         pairs: 0,
@@ -35,13 +43,14 @@ fn refused(number: u8) -> Tested
 
 fn accepted(image: &[u8]) -> Tested
     requires { ⌜ headerBytes ≤ length (now image) ⌝ }
-    ensures { λ t. ⌜ (t .number ≡ 0) × GivesCounts t (decode (now (image .entry))) ⌝ }
+    ensures { λ t. ⌜ (t .number ≡ 0) × (t .rule ≡ 0) × GivesCounts t (decode (now (image .entry))) ⌝ }
 {
     let symbols = layout::symbol_count(image);
     let leaves = layout::leaf_count(image);
     let pairs = layout::pair_count(image);
     Tested {
         number: 0,
+        rule: 0,
         symbols: symbols,
         leaves: leaves,
         pairs: pairs,
@@ -54,11 +63,12 @@ pub fn test_image(image: &[u8]) -> Tested
 {
     let early = refuse::byte_refusal(image);
     if early != 0 {
-        return refused(early);
+        return refused(early, 0);
     }
     let late = refuse::rule_refusal(image);
-    if late != 0 {
-        return refused(late);
+    let number = late.number;
+    if number != 0 {
+        return refused(number, late.rule);
     }
     accepted(image)
 }
@@ -73,7 +83,7 @@ pub fn test_record(image: &[u8], events: usize) -> Tested
         return tested;
     }
     if MOST_EVENTS < events {
-        return refused(8);
+        return refused(8, 0);
     }
     tested
 }

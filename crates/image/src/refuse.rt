@@ -1,11 +1,12 @@
 // The rows of the refusal table: one function for each demand on the bytes, and the first row that applies.
+use super::Refusal;
 use rules::Demand;
 ghost use Prim.Native.Nat.{_≤_};
 ghost use lib.ListN.{length};
 ghost use Rattle.bits.specs.Truth.{Decides};
 ghost use Rattle.image.specs.Refusal.{First};
 ghost use Rattle.layout.specs.Layout.{headerBytes, decode, Sized, Whole};
-ghost use Rattle.image.specs.Image.{Marked, Versioned, Ranged, byteRows, ruleRows};
+ghost use Rattle.image.specs.Image.{Marked, Versioned, Ranged, byteRows, ruleRows, RefusalIs};
 
 const MOST_SYMBOLS: usize = 64;
 
@@ -100,19 +101,21 @@ pub fn byte_refusal(image: &[u8]) -> u8
     0
 }
 
-// Refusals 6 and 7, or 0.
-pub fn rule_refusal(image: &[u8]) -> u8
-    requires { ⌜ Whole (now image) ⌝ }
-    ensures { λ n. ⌜ First (ruleRows (decode (now (image .entry)))) n ⌝ }
+// Refusals 6 and 7 with the first rule at fault, or 0.
+pub fn rule_refusal(image: &[u8]) -> Refusal
+    requires { ⌜ Whole (now image) × Ranged (now image) ⌝ }
+    ensures { λ r. ⌜ RefusalIs (ruleRows (decode (now (image .entry)))) (decode (now (image .entry))) r ⌝ }
 {
     let count = layout::rule_count(image);
     let unfit = rules::first_fault(image, Demand::Fits);
     if unfit < count {
-        return 6;
+        let rule = unfit as u16;
+        return Refusal { number: 6, rule };
     }
     let low = rules::first_fault(image, Demand::Above);
     if low < count {
-        return 7;
+        let rule = low as u16;
+        return Refusal { number: 7, rule };
     }
-    0
+    Refusal { number: 0, rule: 0 }
 }

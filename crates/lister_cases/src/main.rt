@@ -22,6 +22,14 @@ fn images() {
     shell::list(b"twice", b"three");
 }
 
+// The rule at fault: the first, the last of 768 although an earlier one breaks 7, and where two break it the first of them.
+fn faults() {
+    shell::list(b"first-unfit", b"three");
+    shell::list(b"last-unfit", b"three");
+    shell::list(b"last-low", b"three");
+    shell::list(b"two-low", b"three");
+}
+
 // Each refusal of a record, and what is just accepted.
 fn records() {
     shell::list(b"chain", b"over");
@@ -65,6 +73,7 @@ fn unreadable() {
 fn main() {
     accepted();
     images();
+    faults();
     records();
     both();
     missing();

@@ -1,6 +1,6 @@
 -- The lines of the first scripts, one more at a time; and one outcome only.
 -- Assumes nothing.
-use mathlib.Core.Path.{_≡_, refl, sym, ap, _∙_}
+use mathlib.Core.Path.{_≡_, refl, sym, ap, ap₂, _∙_}
 use mathlib.Core.List.{List, [], _∷_, _++_, map, append-assoc, append-nil}
 use Prim.Native.Nat.{ℕ, zero, suc, _+_, _*_, _≤_, _<_}
 use native.Mathlib.Numerals.{add-one}
@@ -17,15 +17,13 @@ use Rattle.derivation.specs.Numbering.{none}
 use Rattle.derivation.proofs.Numbering.{readings-numbered}
 use Rattle.derivation.proofs.Scripts.{script-length}
 use Rattle.image.proofs.Refusals.{first-only}
+use Rattle.image.proofs.Images.{names-same}
 use Rattle.table.specs.Table.{limit, held}
 use Rattle.readings.specs.Count.{howMany}
 use Rattle.text.specs.Text.{line}
-use Rattle.listing.specs.Listing.{mostListed, lineBytes, refusedLine, orMore, lines, ListingIs}
+use Rattle.listing.specs.Listing.{mostListed, lineBytes, refusedWords, refusedLine, orMore, lines, ListingIs}
 
 -- ---- one piece behind the other
-pub refused-text : (h n t u v : List ℕ) → t ≡ h → u ≡ t ++ n → v ≡ u ++ (10 ∷ []) → v ≡ h ++ (n ++ (10 ∷ []))
-refused-text h n t u v a b c = c ∙ rw (b, a) (append-assoc h n (10 ∷ []))
-
 pub heading-text : (h n m t u v x : List ℕ) → t ≡ h → u ≡ t ++ n → v ≡ u ++ m → x ≡ v ++ (10 ∷ []) → x ≡ h ++ (n ++ (m ++ (10 ∷ [])))
 heading-text h n m t u v x a b c d =
     d ∙ rw (c, b, a) (append-assoc (h ++ n) m (10 ∷ []) ∙ append-assoc h n (m ++ (10 ∷ [])))
@@ -35,6 +33,16 @@ or-more-no t n = rw (ne-eqb t limit n)
 
 pub or-more-yes : (t : ℕ) → t ≡ limit → orMore t ≡ 32 ∷ 111 ∷ 114 ∷ 32 ∷ 109 ∷ 111 ∷ 114 ∷ 101 ∷ []
 or-more-yes t e = rw (eq-eqb t limit e)
+
+-- ---- the numbers that tell a refusal
+pub told-six : (n r : ℕ) → n ≡ 6 → n ∷ r ∷ [] ≡ refusedWords n r
+told-six n r e = rw (eq-eqb n 6 e)
+
+pub told-seven : (n r : ℕ) → (n ≡ 6 → ⊥) → n ≡ 7 → n ∷ r ∷ [] ≡ refusedWords n r
+told-seven n r a e = rw (ne-eqb n 6 a, eq-eqb n 7 e)
+
+pub told-alone : (n r : ℕ) → (n ≡ 6 → ⊥) → (n ≡ 7 → ⊥) → n ∷ [] ≡ refusedWords n r
+told-alone n r a b = rw (ne-eqb n 6 a, ne-eqb n 7 b)
 
 -- ---- lines
 lines-more : (ss : List (List ℕ)) (s : List ℕ) → lines (ss ++ (s ∷ [])) ≡ lines ss ++ line s
@@ -106,4 +114,4 @@ listing-only b e o u p q = go (ℕ-discrete (p .number) 0)
 
     go : Dec (p .number ≡ 0) → o ≡ u
     go (yes z) = p .listed z ∙ sym (q .listed (sym s ∙ z))
-    go (no z) = p .refused z ∙ ap refusedLine s ∙ sym (q .refused (λ f. z (s ∙ f)))
+    go (no z) = p .refused z ∙ ap₂ refusedLine s (names-same s (p .names) (q .names)) ∙ sym (q .refused (λ f. z (s ∙ f)))

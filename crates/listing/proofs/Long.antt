@@ -3,31 +3,19 @@
 -- Assumes nothing.
 use mathlib.Core.Path.{_≡_, subst}
 use mathlib.Core.Logic.{_⊎_, inl, inr, _≢_, ⊎-elim}
-use mathlib.Core.List.{List, [], _∷_, _++_}
+use mathlib.Core.List.{List}
 use Prim.Native.Nat.{ℕ, _+_, _≤_, _<_}
 use native.Mathlib.Omega.{arith}
 use lib.ListN.{length, take}
 use lib.Seq.{getD-take, length-take-le, take-all}
-use Rattle.image.specs.Refusal.{Row, _unless_, FirstOf, First}
+use Rattle.image.specs.Refusal.{First}
 use Rattle.image.specs.Image.{imageRows, longestImage}
-use Rattle.image.proofs.Refusals.{AllHold, first-hit}
-use Rattle.image.proofs.Images.{all-hold, holding, accepted-short}
-use Rattle.image.proofs.Long.{begins-alike}
+use Rattle.image.proofs.Refusals.{AllHold, all-hold, first-hit, alone, behind}
+use Rattle.image.proofs.Images.{holding, accepted-short}
+use Rattle.image.proofs.Long.{begins-alike, long-names}
 use Rattle.bits.proofs.Truths.{lt-or-ge}
 use Rattle.listing.specs.Listing.{mostEventBytes, fileRows, ListingIs}
 use Rattle.listing.proofs.Refuses.{passed}
-
--- a table that does not hold decides alone
-alone : (rows more : List Row) (n : ℕ) → (AllHold rows → ⊥) → FirstOf (rows ++ more) n → FirstOf rows n
-alone [] more n h p = absurd (h tt)
-alone ((k unless P) ∷ rows) more n h (inl p) = inl p
-alone ((k unless P) ∷ rows) more n h (inr p) = inr (p .0, alone rows more n (λ a. h (p .0, a)) (p .1))
-
--- behind the same rows
-behind : (rows more rest : List Row) (n : ℕ) → (FirstOf more n → FirstOf rest n) → FirstOf (rows ++ more) n → FirstOf (rows ++ rest) n
-behind [] more rest n f p = f p
-behind ((k unless P) ∷ rows) more rest n f (inl p) = inl p
-behind ((k unless P) ∷ rows) more rest n f (inr p) = inr (p .0, behind rows more rest n f (p .1))
 
 module _ (b e o : List ℕ) where
   -- the first bytes
@@ -40,7 +28,9 @@ module _ (b e o : List ℕ) where
   long-image : longestImage < length b → ListingIs d e o → ListingIs b e o
   long-image l p = record {
     number = p .number;
+    rule = p .rule;
     first = first-hit (imageRows b) (fileRows b e) some (begins-alike d b (p .number) (omega (arith, size)) l (λ k h. getD-take (longestImage + 1) b k 0 (omega arith)) own);
+    names = long-names d (p .number) (p .rule) (omega (arith, size)) own (p .names);
     refused = p .refused;
     listed = λ z. absurd (some z);
   }
@@ -52,7 +42,7 @@ module _ (b e o : List ℕ) where
       bad h = omega (arith, accepted-short d (holding d h), size)
 
       own : First (imageRows d) (p .number)
-      own = record { is = alone (imageRows d) (fileRows d e) (p .number) bad (p .first .is) }
+      own = alone (imageRows d) (fileRows d e) (p .number) bad (p .first)
 
       some : p .number ≢ 0
       some z = bad (all-hold (imageRows d) (omega arith) (p .number) z own)
@@ -60,7 +50,9 @@ module _ (b e o : List ℕ) where
   long-events : mostEventBytes < length e → ListingIs b f o → ListingIs b e o
   long-events l p = record {
     number = p .number;
-    first = record { is = behind (imageRows b) (fileRows b f) (fileRows b e) (p .number) (⊎-elim (λ x. inl (λ h. omega arith, x .1)) (λ x. absurd (omega (arith, x .0, size)))) (p .first .is) };
+    rule = p .rule;
+    first = behind (imageRows b) (fileRows b f) (fileRows b e) (p .number) (⊎-elim (λ x. inl (λ h. omega arith, x .1)) (λ x. absurd (omega (arith, x .0, size)))) (p .first);
+    names = p .names;
     refused = p .refused;
     listed = λ z. absurd (omega (arith, passed b f (p .number) z (p .first) .bytes, size));
   }

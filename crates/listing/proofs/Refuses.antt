@@ -8,8 +8,8 @@ use lib.ListN.{length}
 use Rattle.layout.specs.Layout.{decode}
 use Rattle.image.specs.Refusal.{First}
 use Rattle.image.specs.Image.{mostEvents, imageRows, Accepted}
-use Rattle.image.proofs.Refusals.{all-front, all-back}
-use Rattle.image.proofs.Images.{all-hold, holding}
+use Rattle.image.proofs.Refusals.{all-hold, all-front, all-back}
+use Rattle.image.proofs.Images.{holding}
 use Rattle.table.specs.Table.{tableWords}
 use Rattle.text.specs.Text.{words}
 use Rattle.text.proofs.Pairs.{length-words}

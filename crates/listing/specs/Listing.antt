@@ -12,7 +12,7 @@ use Rattle.derivation.specs.Tree.{scriptWords}
 use Rattle.derivation.specs.Derivations.{scripts}
 use Rattle.layout.specs.Layout.{decode}
 use Rattle.image.specs.Refusal.{Row, _unless_, First}
-use Rattle.image.specs.Image.{mostEvents, imageRows}
+use Rattle.image.specs.Image.{mostEvents, imageRows, Names}
 use Rattle.table.specs.Table.{limit, held, tableWords}
 use Rattle.readings.specs.Count.{howMany}
 use Rattle.text.specs.Text.{text, line, words}
@@ -41,9 +41,13 @@ abbrev pub programRows : (b e : List ℕ) → List Row
 programRows b e = imageRows b ++ fileRows b e
 
 -- ---- what is written, as bytes: the letters of the words, 32 for a space and 10 for the newline
--- "refused ", the number
-abbrev pub refusedLine : ℕ → List ℕ
-refusedLine n = (114 ∷ 101 ∷ 102 ∷ 117 ∷ 115 ∷ 101 ∷ 100 ∷ 32 ∷ []) ++ (text n ++ (10 ∷ []))
+-- the numbers that tell a refusal: its own and, with 6 and 7, that of the rule
+abbrev pub refusedWords : (number rule : ℕ) → List ℕ
+refusedWords n r = n ∷ cond (eqb n 6) (r ∷ []) (cond (eqb n 7) (r ∷ []) [])
+
+-- "refused ", and these numbers parted by one space
+abbrev pub refusedLine : (number rule : ℕ) → List ℕ
+refusedLine n r = (114 ∷ 101 ∷ 102 ∷ 117 ∷ 115 ∷ 101 ∷ 100 ∷ 32 ∷ []) ++ line (refusedWords n r)
 
 -- " or more" after a total at the limit
 abbrev pub orMore : ℕ → List ℕ
@@ -65,8 +69,10 @@ listing g w = heading (held (howMany g w)) ++ lines (take mostListed (scripts g 
 -- ---- all of it: out is what is written
 pub record ListingIs (b e out : List ℕ) : Type 0 where
   pub number : ℕ
+  pub rule : ℕ
   pub first : First (programRows b e) number
-  pub refused : number ≢ 0 → out ≡ refusedLine number
+  pub names : Names (decode b) number rule
+  pub refused : number ≢ 0 → out ≡ refusedLine number rule
   pub listed : number ≡ 0 → out ≡ listing (decode b) (words e)
 
 -- so many bytes are enough for a line: the words of the longest script, each of 5 digits and a byte behind it at most

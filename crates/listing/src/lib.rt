@@ -3,13 +3,13 @@ mod refuse; // the refusals
 mod lines; // a line for each script
 
 ghost use mathlib.Core.Path.{_≡_};
-ghost use mathlib.Core.List.{_++_};
-ghost use Prim.Native.Nat.{_+_, _≤_, _<_};
+ghost use mathlib.Core.List.{[], _∷_, _++_};
+ghost use Prim.Native.Nat.{ℕ, _+_, _≤_, _<_};
 ghost use lib.ListN.{length, take};
 ghost use Rattle.layout.specs.Layout.{decode};
 ghost use Rattle.image.specs.Image.{Accepted, mostEvents};
 ghost use Rattle.table.specs.Table.{tableWords};
-ghost use Rattle.listing.specs.Listing.{mostWords, mostBytes, refusedLine, orMore, heading, listing, Written};
+ghost use Rattle.listing.specs.Listing.{mostWords, mostBytes, refusedWords, refusedLine, orMore, heading, listing, Written};
 
 // The scripts that are listed at most.
 const MOST_LISTED: u32 = 100;
@@ -28,13 +28,27 @@ pub const IMAGE_BYTES: usize = image::LONGEST_IMAGE + 1;
 
 pub const EVENT_BYTES: usize = 2 * image::MOST_EVENTS + 1;
 
-fn write_refused(out: &mut [u8], number: u8) -> usize
+// How many numbers tell a refusal: 6 and 7 name a rule.
+fn told(number: u8) -> usize
+    ensures { λ r. ⌜ (r ≤ 2) × ((rule : ℕ) → take r (number ∷ rule ∷ []) ≡ refusedWords number rule) ⌝ }
+{
+    if number == 6 {
+        return 2;
+    }
+    if number == 7 {
+        return 2;
+    }
+    1
+}
+
+fn write_refused(out: &mut [u8], number: u8, rule: u16) -> usize
     requires { ⌜ 64 ≤ length (now out) ⌝ }
-    ensures { λ r. ⌜ (r ≤ length (now (out .exit))) × (take r (now (out .exit)) ≡ refusedLine number) ⌝ }
+    ensures { λ r. ⌜ (r ≤ length (now (out .exit))) × (take r (now (out .exit)) ≡ refusedLine number rule) ⌝ }
 {
     let behind = text::put_bytes(out, 0, b"refused ");
-    let end = text::put_number(out, behind, number as u32);
-    text::put_byte(out, end, b'\n')
+    let words = [number as u16, rule];
+    let n = told(number);
+    text::put_line(out, behind, &words[..n])
 }
 
 fn put_or_more(out: &mut [u8], at: usize, total: u32) -> usize
@@ -80,9 +94,10 @@ pub fn write_listing(image: &[u8], events: &[u8], out: &mut [u8]) -> usize
     if out.len() < MOST_BYTES {
         return 0;
     }
-    let number = refuse::program_refusal(image, events);
+    let refusal = refuse::program_refusal(image, events);
+    let number = refusal.number;
     if number != 0 {
-        return write_refused(out, number);
+        return write_refused(out, number, refusal.rule);
     }
     let mut room = [0u16; image::MOST_EVENTS];
     let n = text::read_words(events, &mut room);

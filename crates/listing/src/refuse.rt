@@ -1,26 +1,37 @@
 // The refusals of the program, in its order.
-ghost use Rattle.image.specs.Refusal.{First};
+use image::Refusal;
+ghost use Rattle.layout.specs.Layout.{decode};
+ghost use Rattle.image.specs.Image.{RefusalIs};
 ghost use Rattle.listing.specs.Listing.{programRows};
 
 // Refusals 1 to 7, 8, 14 and 10, or 0.
-pub fn program_refusal(image: &[u8], events: &[u8]) -> u8
-    ensures { λ r. ⌜ First (programRows (now (image .entry)) (now (events .entry))) r ⌝ }
+pub fn program_refusal(image: &[u8], events: &[u8]) -> Refusal
+    ensures { λ r. ⌜ RefusalIs (programRows (now (image .entry)) (now (events .entry))) (decode (now (image .entry))) r ⌝ }
 {
     let tested = image::test_image(image);
-    let early = tested.number;
-    if early != 0 {
-        return early;
+    let number = tested.number;
+    if number != 0 {
+        return Refusal {
+            number,
+            rule: tested.rule,
+        };
     }
     let size = events.len();
     if 2 * image::MOST_EVENTS < size {
-        return 8;
+        return Refusal { number: 8, rule: 0 };
     }
     if size % 2 != 0 {
-        return 14;
+        return Refusal {
+            number: 14,
+            rule: 0,
+        };
     }
     let need = table::words_needed(tested.symbols, size / 2);
     if super::TABLE_WORDS < need {
-        return 10;
+        return Refusal {
+            number: 10,
+            rule: 0,
+        };
     }
-    0
+    Refusal { number: 0, rule: 0 }
 }

@@ -19,7 +19,7 @@ use Rattle.derivation.proofs.Numbering.{readings-numbered}
 use Rattle.derivation.proofs.Scripts.{script-length}
 use Rattle.layout.specs.Layout.{decode}
 use Rattle.image.specs.Refusal.{First}
-use Rattle.image.proofs.Refusals.{none as passed, pass, first-only}
+use Rattle.image.proofs.Refusals.{none as passed, pass, first-only, past-zero, early-rows, late-rows}
 use Rattle.table.specs.Table.{limit}
 use Rattle.bits.proofs.Truths.{lt-or-ge}
 use Rattle.readings.specs.declared.Read.{Read}
@@ -28,14 +28,14 @@ use Rattle.readings.specs.Count.{howMany}
 use Rattle.readings.specs.Reading.{lentRows, numberRows, ReadingIs}
 use Rattle.readings.specs.Check.{CheckIs}
 use Rattle.readings.specs.Demand.{Gave, written, OneToOne}
-use Rattle.readings.proofs.Refuses.{past, early-rows, late-rows, lent-record, number-ok}
+use Rattle.readings.proofs.Refuses.{lent-record, number-ok}
 
 module _ (b w : List ℕ) where
   each : (k : ℕ) (table room : List ℕ) (r : Read) (t o : List ℕ) → First (lentRows b (length w) (length table) (length room)) 0
       → k < howMany (decode b) w → k < limit → ReadingIs b w k table room r t o → r .number ≡ 0
   each k table room r t o h l m p =
       first-only (p .number)
-      (past (lentRows b (length w) (length table) (length room)) _ (omega arith) 0 refl h (pass (inl l) (pass (λ y. omega (arith, y .last)) passed)))
+      (past-zero (lentRows b (length w) (length table) (length room)) _ (omega arith) 0 refl h (pass (inl l) (pass (λ y. omega (arith, y .last)) passed)))
 
   module _ (k : ℕ) (o : List ℕ) (a : Gave b w k o) where
     first : First (lentRows b (length w) (length (a .table)) (length (a .room))) 0

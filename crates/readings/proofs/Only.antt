@@ -9,6 +9,7 @@ use Rattle.bits.proofs.Truths.{decides-only}
 use Rattle.derivation.specs.Tree.{IsReading}
 use Rattle.layout.specs.Layout.{decode}
 use Rattle.image.proofs.Refusals.{first-only}
+use Rattle.image.proofs.Images.{names-same}
 use Rattle.table.proofs.Tables.{filled-only}
 use Rattle.readings.specs.declared.Counted.{Counted}
 use Rattle.readings.specs.declared.Read.{Read}
@@ -18,14 +19,14 @@ use Rattle.readings.specs.Reading.{numberRows, Fills, ReadingIs}
 use Rattle.readings.specs.Check.{CheckIs}
 use Rattle.readings.proofs.Refuses.{count-ok, lent-ok, lent-past}
 
-counted-eq : (r s : Counted) → r .number ≡ s .number → r .total ≡ s .total → r ≡ s
-counted-eq r s e f = λ i. record { number = e i; total = f i }
+counted-eq : (r s : Counted) → r .number ≡ s .number → r .rule ≡ s .rule → r .total ≡ s .total → r ≡ s
+counted-eq r s e m f = λ i. record { number = e i; rule = m i; total = f i }
 
-read-eq : (r s : Read) → r .number ≡ s .number → r ≡ s
-read-eq r s e = λ i. record { number = e i }
+read-eq : (r s : Read) → r .number ≡ s .number → r .rule ≡ s .rule → r ≡ s
+read-eq r s e m = λ i. record { number = e i; rule = m i }
 
-checked-eq : (r s : Checked) → r .number ≡ s .number → r .yes ≡ s .yes → r ≡ s
-checked-eq r s e f = λ i. record { number = e i; yes = f i }
+checked-eq : (r s : Checked) → r .number ≡ s .number → r .rule ≡ s .rule → r .yes ≡ s .yes → r ≡ s
+checked-eq r s e m f = λ i. record { number = e i; rule = m i; yes = f i }
 
 pub count-only : (b w before : List ℕ) (r s : Counted) (t u : List ℕ) → CountIs b w before r t → CountIs b w before s u → (r ≡ s) × (t ≡ u)
 count-only b w before r s t u p q = go (ℕ-discrete (r .number) 0)
@@ -33,17 +34,20 @@ count-only b w before r s t u p q = go (ℕ-discrete (r .number) 0)
     e : r .number ≡ s .number
     e = first-only (p .number) (q .number)
 
+    m : r .rule ≡ s .rule
+    m = names-same e (p .rule) (q .rule)
+
     go : Dec (r .number ≡ 0) → (r ≡ s) × (t ≡ u)
     go (yes z) =
         let x = p .answered z in
         let y = q .answered (sym e ∙ z) in (
-          counted-eq r s e (x .total ∙ sym (y .total)),
+          counted-eq r s e m (x .total ∙ sym (y .total)),
           filled-only (decode b) w before t u (count-ok b _ _ _ z (p .number) .image .sound .range .some) (x .table) (y .table),
         )
     go (no z) =
         let x = p .refused z in
         let y = q .refused (λ f. z (e ∙ f)) in
-        (counted-eq r s e (x .total ∙ sym (y .total)), x .kept ∙ sym (y .kept))
+        (counted-eq r s e m (x .total ∙ sym (y .total)), x .kept ∙ sym (y .kept))
 
 fills? : (n : ℕ) → Dec (Fills n)
 fills? n = elim (ℕ-discrete n 0) [
@@ -56,7 +60,7 @@ fills? n = elim (ℕ-discrete n 0) [
 
 pub reading-only : (b w : List ℕ) (k : ℕ) (table room : List ℕ) (r s : Read) (t u o v : List ℕ)
     → ReadingIs b w k table room r t o → ReadingIs b w k table room s u v → (r ≡ s) × (t ≡ u) × (o ≡ v)
-reading-only b w k table room r s t u o v p q = (read-eq r s e, tables (fills? (r .number)), rooms (ℕ-discrete (r .number) 0))
+reading-only b w k table room r s t u o v p q = (read-eq r s e (names-same e (p .rule) (q .rule)), tables (fills? (r .number)), rooms (ℕ-discrete (r .number) 0))
   where
     e : r .number ≡ s .number
     e = first-only (p .number) (q .number)
@@ -79,6 +83,9 @@ check-only b w s r t p q = go (ℕ-discrete (r .number) 0)
     e : r .number ≡ t .number
     e = first-only (p .number) (q .number)
 
+    m : r .rule ≡ t .rule
+    m = names-same e (p .rule) (q .rule)
+
     go : Dec (r .number ≡ 0) → r ≡ t
-    go (yes z) = checked-eq r t e (decides-only (IsReading (decode b) w s) (r .yes) (t .yes) (p .answered z) (q .answered (sym e ∙ z)))
-    go (no z) = checked-eq r t e (p .refused z ∙ sym (q .refused (λ f. z (e ∙ f))))
+    go (yes z) = checked-eq r t e m (decides-only (IsReading (decode b) w s) (r .yes) (t .yes) (p .answered z) (q .answered (sym e ∙ z)))
+    go (no z) = checked-eq r t e m (p .refused z ∙ sym (q .refused (λ f. z (e ∙ f))))

@@ -1,4 +1,4 @@
--- The refusal tables of count and reading: what the answer 0 gives, and which numbers each part of a table can give.
+-- The refusal tables of count and reading: what the answer 0 gives, and which numbers the refusals 12 and 13 leave.
 -- Assumes nothing.
 use mathlib.Core.Path.{_≡_, refl}
 use mathlib.Core.Logic.{_⊎_, inl, inr, _≢_, ⊎-elim}
@@ -6,48 +6,16 @@ use mathlib.Core.List.{List, [], _∷_, _++_}
 use Prim.Native.Nat.{ℕ, _≤_, _<_}
 use native.Mathlib.Decide.{decLt}
 use native.Mathlib.Omega.{arith}
+use Rattle.derivation.specs.Grammar.{Grammar}
 use Rattle.derivation.specs.Tree.{scriptWords}
 use Rattle.layout.specs.Layout.{decode}
 use Rattle.image.specs.Refusal.{Row, _unless_, FirstOf, First}
-use Rattle.image.specs.Image.{mostEvents, recordRows, Accepted}
-use Rattle.image.proofs.Refusals.{AllHold, Positive, none, fail, pass, first-pass, all-front, all-back}
-use Rattle.image.proofs.Images.{all-hold, record-holding}
+use Rattle.image.specs.Image.{mostEvents, recordRows, Names, Accepted}
+use Rattle.image.proofs.Refusals.{AllHold, none, fail, pass, all-hold, all-front, all-back, early-rows, under, reached}
+use Rattle.image.proofs.Images.{names-none, record-holding}
 use Rattle.table.specs.Table.{limit, held, tableWords}
 use Rattle.readings.specs.Count.{tableRows, countRows}
 use Rattle.readings.specs.Reading.{roomRows, Beyond, numberRows, lentRows, Fills}
-
--- ---- any two tables, one after the other
--- the answer 0 of both is the answer 0 of each
-zeros : (rows more : List Row) → Positive rows → FirstOf (rows ++ more) 0 → FirstOf rows 0 × FirstOf more 0
-zeros [] more z p = (refl, p)
-zeros ((k unless P) ∷ rows) more z (inl p) = absurd (omega (arith, z .0, p .1))
-zeros ((k unless P) ∷ rows) more z (inr p) = let q = zeros rows more (z .1) (p .1) in (inr (p .0, q .0), q .1)
-
-pub early-rows : (rows more : List Row) → Positive rows → First (rows ++ more) 0 → First rows 0
-early-rows rows more z p = record { is = zeros rows more z (p .is) .0 }
-
-pub late-rows : (rows more : List Row) → Positive rows → First (rows ++ more) 0 → First more 0
-late-rows rows more z p = record { is = zeros rows more z (p .is) .1 }
-
--- past the first table the second decides
-pub past : (rows more : List Row) → Positive rows → (r : ℕ) → r ≡ 0 → First rows r → {m : ℕ} → First more m → First (rows ++ more) m
-past rows more z r e p q = first-pass rows more (all-hold rows z r e p) q
-
--- every number of a table is below m
-abbrev pub Under : ℕ → List Row → Type 0
-Under m [] = 0 < m
-Under m ((k unless P) ∷ rows) = (k < m) × Under m rows
-
-under : (m : ℕ) (rows : List Row) (n : ℕ) → Under m rows → FirstOf rows n → n < m
-under m [] n u p = omega (arith, p)
-under m ((k unless P) ∷ rows) n u (inl p) = omega (arith, p .1, u .0)
-under m ((k unless P) ∷ rows) n u (inr p) = under m rows n (u .1) (p .1)
-
--- an answer that is not a number of the first table comes from the second
-reached : (rows more : List Row) (n m : ℕ) → Under m rows → Positive rows → (n ≡ 0) ⊎ (m ≤ n) → FirstOf (rows ++ more) n → FirstOf rows 0
-reached [] more n m u z h p = refl
-reached ((k unless P) ∷ rows) more n m u z h (inl p) = absurd (⊎-elim (λ (e : n ≡ 0). omega (arith, z .0, p .1)) (λ (l : m ≤ n). omega (arith, u .0, p .1)) h)
-reached ((k unless P) ∷ rows) more n m u z h (inr p) = inr (p .0, reached rows more n m (u .1) (z .1) h (p .1))
 
 -- ---- what the answer 0 gives
 pub record CountOk (b : List ℕ) (n size : ℕ) : Type 0 where
@@ -80,14 +48,13 @@ module _ (b : List ℕ) (n size : ℕ) where
     -- none of these refusals leaves a table filled, and one that does comes from behind them
     pub lent-keeps : (r : ℕ) → r ≢ 0 → First (lentRows b n size space) r → Fills r → ⊥
     lent-keeps r z p h =
-        let l = under 12 (lentRows b n size space) r (omega arith) (p .is) in
+        let l = under 12 (lentRows b n size space) r (omega arith) p in
         ⊎-elim z (⊎-elim (λ (e : r ≡ 12). omega arith) (λ (e : r ≡ 13). omega arith)) h
 
     pub lent-past : (more : List Row) (r : ℕ) → Fills r → First (lentRows b n size space ++ more) r → First (lentRows b n size space) 0
-    lent-past more r h p = record {
-      is = reached (lentRows b n size space) more r 12 (omega arith) (omega arith)
-          (⊎-elim inl (⊎-elim (λ (e : r ≡ 12). inr (omega arith)) (λ (e : r ≡ 13). inr (omega arith))) h) (p .is);
-    }
+    lent-past more r h p =
+        reached (lentRows b n size space) more r 12 (omega arith) (omega arith)
+        (⊎-elim inl (⊎-elim (λ (e : r ≡ 12). inr (omega arith)) (λ (e : r ≡ 13). inr (omega arith))) h) p
 
 -- ---- refusals 12 and 13, from the number of readings held at the limit
 module _ (k t m : ℕ) (e : t ≡ held m) where
@@ -110,6 +77,14 @@ number-fills k m r p = go (p .is)
     go (inl q) = inr (inl (q .1))
     go (inr (y, inl q)) = inr (inr (q .1))
     go (inr (y, inr q)) = inl (q .1)
+
+-- none of these numbers names a rule
+pub fills-name : {g : Grammar} (r : ℕ) → Fills r → Names g r 0
+fills-name r h =
+    names-none
+    (λ e. ⊎-elim (λ (z : r ≡ 0). omega arith) (⊎-elim (λ (z : r ≡ 12). omega arith) (λ (z : r ≡ 13). omega arith)) h)
+    (λ e. ⊎-elim (λ (z : r ≡ 0). omega arith) (⊎-elim (λ (z : r ≡ 12). omega arith) (λ (z : r ≡ 13). omega arith)) h)
+    refl
 
 pub number-ok : (k m r : ℕ) → r ≡ 0 → First (numberRows k m) r → k ≤ limit → (k < m) × (k < limit)
 number-ok k m r e p l =

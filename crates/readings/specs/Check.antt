@@ -10,10 +10,11 @@ use Rattle.bits.specs.Truth.{Decides}
 use Rattle.derivation.specs.Tree.{IsReading}
 use Rattle.layout.specs.Layout.{decode}
 use Rattle.image.specs.Refusal.{First}
-use Rattle.image.specs.Image.{recordRows}
+use Rattle.image.specs.Image.{recordRows, Names}
 use Rattle.readings.specs.declared.Checked.{Checked}
 
 pub record CheckIs (b w s : List ℕ) (r : Checked) : Type 0 where
   pub number : First (recordRows b (length w)) (r .number)
+  pub rule : Names (decode b) (r .number) (r .rule)
   pub refused : r .number ≢ 0 → r .yes ≡ false
   pub answered : r .number ≡ 0 → Decides (r .yes) (IsReading (decode b) w s)

@@ -9,7 +9,7 @@ use Rattle.derivation.specs.Grammar.{Grammar}
 use Rattle.derivation.specs.Derivations.{readings}
 use Rattle.layout.specs.Layout.{decode}
 use Rattle.image.specs.Refusal.{Row, _unless_, First}
-use Rattle.image.specs.Image.{recordRows}
+use Rattle.image.specs.Image.{recordRows, Names}
 use Rattle.table.specs.Table.{held, tableWords, Filled}
 use Rattle.readings.specs.declared.Counted.{Counted}
 
@@ -24,7 +24,7 @@ tableRows b n size = (10 unless (tableWords (decode b .symbols) n ≤ size)) ∷
 abbrev pub countRows : (b : List ℕ) (n size : ℕ) → List Row
 countRows b n size = recordRows b n ++ tableRows b n size
 
--- a refusal: 0, and the table as it was
+-- a refusal: 0 but for the rule, and the table as it was
 pub record Refused (before : List ℕ) (r : Counted) (after : List ℕ) : Type 0 where
   pub total : r .total ≡ 0
   pub kept : after ≡ before
@@ -36,5 +36,6 @@ pub record Answered (g : Grammar) (w before : List ℕ) (r : Counted) (after : L
 
 pub record CountIs (b w before : List ℕ) (r : Counted) (after : List ℕ) : Type 0 where
   pub number : First (countRows b (length w) (length before)) (r .number)
+  pub rule : Names (decode b) (r .number) (r .rule)
   pub refused : r .number ≢ 0 → Refused before r after
   pub answered : r .number ≡ 0 → Answered (decode b) w before r after

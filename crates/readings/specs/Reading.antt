@@ -10,6 +10,7 @@ use Rattle.derivation.specs.Derivations.{readings}
 use Rattle.derivation.specs.Numbering.{none}
 use Rattle.layout.specs.Layout.{decode}
 use Rattle.image.specs.Refusal.{Row, _unless_, First}
+use Rattle.image.specs.Image.{Names}
 use Rattle.table.specs.Table.{limit, Filled}
 use Rattle.readings.specs.Count.{howMany, countRows}
 use Rattle.readings.specs.declared.Read.{Read}
@@ -40,6 +41,7 @@ Fills n = (n ≡ 0) ⊎ ((n ≡ 12) ⊎ (n ≡ 13))
 
 pub record ReadingIs (b w : List ℕ) (k : ℕ) (table room : List ℕ) (r : Read) (table′ room′ : List ℕ) : Type 0 where
   pub number : First (readingRows b w k table room) (r .number)
+  pub rule : Names (decode b) (r .number) (r .rule)
   pub filled : Fills (r .number) → Filled (decode b) w table table′
   pub kept : (Fills (r .number) → ⊥) → table′ ≡ table
   -- the room begins with the script of reading k, and the rest of it is as it was

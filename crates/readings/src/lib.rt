@@ -5,20 +5,23 @@ ghost use Rattle.readings.specs.Count.{CountIs};
 ghost use Rattle.readings.specs.Reading.{ReadingIs};
 ghost use Rattle.readings.specs.Check.{CheckIs};
 
-// What counting answers: a refusal's number with 0, or 0 with the number of readings, held at the limit.
+// What counting answers: a refusal with 0, or 0 with the number of readings, held at the limit. The rule is that of 6 and 7, else 0.
 pub struct Counted {
     pub number: u8,
+    pub rule: u16,
     pub total: u32,
 }
 
-// What a reading answers: a refusal's number, or 0.
+// What a reading answers: a refusal, or 0.
 pub struct Read {
     pub number: u8,
+    pub rule: u16,
 }
 
-// What checking answers: a refusal's number with no, or 0 with yes or no.
+// What checking answers: a refusal with no, or 0 with yes or no.
 pub struct Checked {
     pub number: u8,
+    pub rule: u16,
     pub yes: bool,
 }
 
@@ -27,14 +30,23 @@ pub fn count(image: &[u8], events: &[u16], table: &mut [u32]) -> Counted
     ensures { λ r. ⌜ CountIs (now (image .entry)) (now (events .entry)) (now (table .entry)) r (now (table .exit)) ⌝ }
 {
     let n = events.len();
-    let number = refuse::count_refusal(image, n, table.len());
+    let refusal = refuse::count_refusal(image, n, table.len());
+    let number = refusal.number;
     if number != 0 {
-        return Counted { number, total: 0 };
+        return Counted {
+            number,
+            rule: refusal.rule,
+            total: 0,
+        };
     }
     table::fill_table(image, events, table);
     let symbols = layout::symbol_count(image);
     let total = table::total_in(table, symbols, n);
-    Counted { number: 0, total }
+    Counted {
+        number: 0,
+        rule: 0,
+        total,
+    }
 }
 
 // Writes the script of reading number k to the front of the room, and fills the table.
@@ -44,18 +56,25 @@ pub fn reading(image: &[u8], events: &[u16], k: u32, table: &mut [u32], room: &m
 {
     let n = events.len();
     let early = refuse::lent_refusal(image, n, table.len(), room.len());
-    if early != 0 {
-        return Read { number: early };
+    let number = early.number;
+    if number != 0 {
+        return Read {
+            number,
+            rule: early.rule,
+        };
     }
     table::fill_table(image, events, table);
     let symbols = layout::symbol_count(image);
     let total = table::total_in(table, symbols, n);
     let late = refuse::number_refusal(k, total);
     if late != 0 {
-        return Read { number: late };
+        return Read {
+            number: late,
+            rule: 0,
+        };
     }
     unrank::write_script(image, events, table, 0, 0, n, k, room);
-    Read { number: 0 }
+    Read { number: 0, rule: 0 }
 }
 
 // Whether the words are the script of a reading.
@@ -65,8 +84,16 @@ pub fn check(image: &[u8], events: &[u16], script: &[u16]) -> Checked
     let tested = image::test_record(image, events.len());
     let number = tested.number;
     if number != 0 {
-        return Checked { number, yes: false };
+        return Checked {
+            number,
+            rule: tested.rule,
+            yes: false,
+        };
     }
     let yes = follow::is_reading(image, events, script);
-    Checked { number: 0, yes }
+    Checked {
+        number: 0,
+        rule: 0,
+        yes,
+    }
 }

@@ -1,40 +1,53 @@
 // The refusals of count and reading, each table the rows of the one before and more.
+use image::Refusal;
 ghost use mathlib.Core.Path.{_≡_};
 ghost use Prim.Native.Nat.{ℕ};
+ghost use Rattle.layout.specs.Layout.{decode};
 ghost use Rattle.image.specs.Refusal.{First};
+ghost use Rattle.image.specs.Image.{RefusalIs};
 ghost use Rattle.table.specs.Table.{held};
 ghost use Rattle.readings.specs.Count.{countRows};
 ghost use Rattle.readings.specs.Reading.{lentRows, numberRows};
 
 // Refusals 1 to 8 and 10, or 0.
-pub fn count_refusal(image: &[u8], n: usize, size: usize) -> u8
-    ensures { λ r. ⌜ First (countRows (now (image .entry)) n size) r ⌝ }
+pub fn count_refusal(image: &[u8], n: usize, size: usize) -> Refusal
+    ensures { λ r. ⌜ RefusalIs (countRows (now (image .entry)) n size) (decode (now (image .entry))) r ⌝ }
 {
     let tested = image::test_record(image, n);
-    let early = tested.number;
-    if early != 0 {
-        return early;
+    let number = tested.number;
+    if number != 0 {
+        return Refusal {
+            number,
+            rule: tested.rule,
+        };
     }
     let need = table::words_needed(tested.symbols, n);
     if size < need {
-        return 10;
+        return Refusal {
+            number: 10,
+            rule: 0,
+        };
     }
-    0
+    Refusal { number: 0, rule: 0 }
 }
 
 // Refusals 1 to 8, 10 and 11, or 0.
-pub fn lent_refusal(image: &[u8], n: usize, size: usize, space: usize) -> u8
-    ensures { λ r. ⌜ First (lentRows (now (image .entry)) n size space) r ⌝ }
+pub fn lent_refusal(image: &[u8], n: usize, size: usize, space: usize) -> Refusal
+    ensures { λ r. ⌜ RefusalIs (lentRows (now (image .entry)) n size space) (decode (now (image .entry))) r ⌝ }
 {
     let early = count_refusal(image, n, size);
-    if early != 0 {
+    let number = early.number;
+    if number != 0 {
         return early;
     }
     let need = derivation::script_words(n);
     if space < need {
-        return 11;
+        return Refusal {
+            number: 11,
+            rule: 0,
+        };
     }
-    0
+    Refusal { number: 0, rule: 0 }
 }
 
 // Refusals 12 and 13, or 0, where total is the true number of readings held at the limit.

@@ -13,11 +13,17 @@ abbrev pub Passes : Demand → Grammar → ℕ → Type 0
 Passes Fits g r = SymbolsFit g r
 Passes Above g r = Rises g r
 
--- r is the first number below m of which P fails, or m where there is none
+-- r is the first number below m of which P fails
 pub record FirstFault (m : ℕ) (P : ℕ → Type 0) (r : ℕ) : Type 0 where
-  pub within : r ≤ m
+  pub within : r < m
   pub before : Every r P
-  pub fault : r < m → P r → ⊥
+  pub fault : P r → ⊥
+
+-- what a search for it answers: the first fault, or m where there is none
+pub record SearchIs (m : ℕ) (P : ℕ → Type 0) (r : ℕ) : Type 0 where
+  pub within : r ≤ m
+  pub found : r < m → FirstFault m P r
+  pub clean : m ≤ r → Every m P
 
 -- s and e, and s, a and b, as one number k
 pub record LeafKey (s e k : ℕ) : Type 0 where

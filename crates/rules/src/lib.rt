@@ -3,7 +3,7 @@ ghost use Rattle.bits.specs.Truth.{Decides};
 ghost use Rattle.derivation.specs.Grammar.{ruleCount};
 ghost use Rattle.derivation.specs.Sound.{SymbolsFit, Rises};
 ghost use Rattle.layout.specs.Layout.{decode, Whole, HasRule};
-ghost use Rattle.rules.specs.Fault.{KeyIs, Passes, FirstFault};
+ghost use Rattle.rules.specs.Fault.{KeyIs, Passes, SearchIs};
 
 // ---- one rule
 
@@ -89,7 +89,7 @@ fn passes(image: &[u8], r: usize, demand: Demand) -> bool
 // The number of the first rule at fault, or the number of rules.
 pub fn first_fault(image: &[u8], demand: Demand) -> usize
     requires { ⌜ Whole (now image) ⌝ }
-    ensures { λ r. ⌜ FirstFault (ruleCount (decode (now (image .entry)))) (Passes demand (decode (now (image .entry)))) r ⌝ }
+    ensures { λ r. ⌜ SearchIs (ruleCount (decode (now (image .entry)))) (Passes demand (decode (now (image .entry)))) r ⌝ }
 {
     let n = layout::rule_count(image);
     let mut r = 0;

@@ -4,6 +4,7 @@
 use super::ROOM;
 use super::WORDS;
 use super::digest::write_counts;
+use super::digest::write_refusal;
 use super::digest::write_script;
 use lines::find;
 use lines::read_words;
@@ -12,7 +13,7 @@ use lines::value;
 
 fn count(image: &[u8], events: &[u16], table: &mut [u32]) {
     let counted = readings::count(image, events, table);
-    value(counted.number as u64);
+    write_refusal(counted.number, counted.rule);
     value(counted.total as u64);
     write_counts(table);
 }
@@ -27,7 +28,7 @@ fn lend_to_count(image: &[u8], events: &[u16], size: usize) {
 
 fn reading(image: &[u8], events: &[u16], k: u32, table: &mut [u32], room: &mut [u16]) {
     let read = readings::reading(image, events, k, table, room);
-    value(read.number as u64);
+    write_refusal(read.number, read.rule);
     write_counts(table);
     write_script(room);
 }
@@ -48,7 +49,7 @@ fn check(image: &[u8], events: &[u16], text: &[u8]) {
     let mut script = [0u16; ROOM];
     let n = read_words(text, &mut script);
     let checked = readings::check(image, events, &script[..n]);
-    value(checked.number as u64);
+    write_refusal(checked.number, checked.rule);
     value(checked.yes as u64);
 }
 

@@ -1,6 +1,12 @@
-// Words as they are written: up to 64 one by one, and of more a number made of them all.
+// Answers and words as they are written: up to 64 words one by one, and of more a number made of them all.
 use lines::value;
 ghost use Prim.Native.Nat.{_<_};
+
+// A refusal's number and the rule that it names.
+pub fn write_refusal(number: u8, rule: u16) {
+    value(number as u64);
+    value(rule as u64);
+}
 
 fn mix(sum: u64, word: u64) -> u64
     requires { ⌜ (sum < 4294967296) × (word < 4294967296) ⌝ }

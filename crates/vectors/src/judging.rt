@@ -1,7 +1,8 @@
 // A line that judges a record: behind the image its events, two bytes each, and behind a semicolon the length of the lent chart, two bytes,
-// each word of which is 165 before. Written are the number, the verdict, the items, the firings, and the words of the chart afterwards, each
+// each word of which is 165 before. Written are the number, the rule, the verdict, the items, the firings, and the words of the chart afterwards, each
 // with a star and how many times it stands there in a row.
 use super::WORDS;
+use super::digest::write_refusal;
 use libc::STDOUT_FILENO;
 use lines::find;
 use lines::read_words;
@@ -39,7 +40,7 @@ fn rows(words: &[u64]) {
 
 fn answer(image: &[u8], events: &[u16], chart: &mut [u64]) {
     let judged = chart::judge(image, events, chart);
-    value(judged.number as u64);
+    write_refusal(judged.number, judged.rule);
     value(judged.admitted as u64);
     value(judged.items);
     value(judged.firings);

@@ -1,13 +1,14 @@
 // Runs the services on each line of standard input, and writes the line's name with the answers.
 // A line is a name, a colon, and a space and two digits for each byte of an image. Where nothing follows, the image is tested: written
-// are the number with N, L and B, and the numbers for records of 96 and of 97 events. Where a semicolon follows, a record is judged, and
+// are the number and the rule with N, L and B, and both for records of 96 and of 97 events. Where a semicolon follows, a record is judged, and
 // where a bar follows, its readings are asked for: behind the bar are its events, two bytes each, and a line that ends there asks for
 // every number.
 mod judging; // a line that judges a record
 mod ask; // a line that asks for one number
 mod every; // a line that asks for every number
-mod digest; // words as they are written
+mod digest; // answers and words as they are written
 
+use digest::write_refusal;
 use libc::STDIN_FILENO;
 use libc::STDOUT_FILENO;
 use lines::find;
@@ -24,14 +25,14 @@ pub const ROOM: usize = 4 * image::MOST_EVENTS + 44;
 
 fn test(image: &[u8]) {
     let t = image::test_image(image);
-    value(t.number as u64);
+    write_refusal(t.number, t.rule);
     value(t.symbols as u64);
     value(t.leaves as u64);
     value(t.pairs as u64);
     let most = image::test_record(image, 96);
-    value(most.number as u64);
+    write_refusal(most.number, most.rule);
     let more = image::test_record(image, 97);
-    value(more.number as u64);
+    write_refusal(more.number, more.rule);
 }
 
 // What follows the bar.

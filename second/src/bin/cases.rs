@@ -2,7 +2,7 @@
 //! run, and a line for each call: a name, and the call's arguments, parted by tabs.
 
 use second::derive::cells;
-use second::examples::{any_image, binary, chain, digits, image, largest, stop};
+use second::examples::{any_image, binary, chain, digits, faulty, image, largest, stop};
 use second::listing::{COUNT_BUFFER, MOST_BYTES};
 use second::random::Random;
 use second::services::MOST_EVENTS;
@@ -50,6 +50,7 @@ fn main() -> io::Result<()> {
     examples(&mut cases)?;
     totals(&mut cases)?;
     refused_images(&mut cases)?;
+    refused_rules(&mut cases)?;
     event_files(&mut cases)?;
     count_buffer(&mut cases)?;
     large(&mut cases)?;
@@ -132,6 +133,32 @@ fn refused_images(cases: &mut Cases) -> io::Result<()> {
         cases.pair(&format!("refused image {at}"), image, &[1, 0])?;
         cases.pair(&format!("refused image {at}, odd"), image, &odd)?;
         cases.pair(&format!("refused image {at}, long"), image, &long)?;
+    }
+    Ok(())
+}
+
+/// Rules at fault among 768, of which the first 512 are event rules. No two of these cases name the
+/// same rule with the same refusal, so that the output shows which of them there were.
+fn refused_rules(cases: &mut Cases) -> io::Result<()> {
+    let faults: [(&[usize], &[usize]); 13] = [
+        (&[0], &[]),
+        (&[99, 100], &[]),
+        (&[300, 700], &[]),
+        (&[511], &[]),
+        (&[512, 767], &[]),
+        (&[767], &[]),
+        (&[600], &[100, 700]),
+        (&[], &[1]),
+        (&[], &[10, 11]),
+        (&[], &[301, 701]),
+        (&[], &[511]),
+        (&[], &[513, 767]),
+        (&[], &[767]),
+    ];
+    for (unknown, repeated) in faults {
+        let image = faulty(largest(), unknown, repeated);
+        let name = format!("symbols of {unknown:?} unknown, {repeated:?} repeated");
+        cases.record(&name, &image, &[0])?;
     }
     Ok(())
 }

@@ -8,7 +8,7 @@ use Rattle.derivation.proofs.Columns.{cells-small}
 use Rattle.layout.specs.Layout.{decode}
 use Rattle.image.specs.Image.{recordRows}
 use Rattle.image.proofs.Refusals.{none, fail, pass}
-use Rattle.image.proofs.Images.{record-accepted, refused-first, accepted-first}
+use Rattle.image.proofs.Images.{names-none, record-accepted, refused-first, accepted-first}
 use Rattle.chart.specs.Fill.{onesTo}
 use Rattle.chart.specs.Judge.{chartRows}
 use Rattle.chart.proofs.Judges.{refusal, success, answer}
@@ -25,7 +25,8 @@ returns : tie.Need-returns
 returns c =
     let a = c .before .before .before .before .before .before .args in
     let z = c .before .if1 .taken in
-    refusal (a .image .now) (a .events .now) _ _ _ _ z (refused-first _ _ _ (c .before .before .test-record .ensures) z) (c .refused .ensures) refl
+    let t = c .before .before .test-record .ensures in
+    refusal (a .image .now) (a .events .now) _ _ _ _ _ z (refused-first _ _ _ t z) (t .rule) (c .refused .ensures) refl
 
 cell-count-requires : tie.Need-cell-count-requires
 cell-count-requires c κs = omega (arith, record-accepted _ _ _ (c .before .test-record .ensures) (c .if1 .left) .1)
@@ -36,8 +37,9 @@ refused-requires-2 c κs = search needs
 returns-2 : tie.Need-returns-2
 returns-2 c =
     let a = c .before .before .before .before .before .before .before .before .args in
-    refusal (a .image .now) (a .events .now) _ _ _ 9 (λ e. omega arith)
+    refusal (a .image .now) (a .events .now) _ _ _ 9 0 (λ e. omega arith)
     (accepted-first _ _ _ (c .before .before .before .before .test-record .ensures) (omega arith) (c .before .before .before .if1 .left) (fail (λ h. omega arith)))
+    (names-none (λ e. omega arith) (λ e. omega arith) refl)
     (c .refused2 .ensures) refl
 
 fill-chart-requires : tie.Need-fill-chart-requires
@@ -68,7 +70,7 @@ returns-3 c =
     let t = p .before .test-record .ensures in
     let z = p .if1 .left in
     let f = c .before .before .before .before .before .before .fill-chart in
-    success b w _ _ _ refl
+    success b w _ _ _ refl refl
     (accepted-first (recordRows b (length w)) (chartRows (length w) _) _ t (omega arith) z (pass (omega arith) none))
     (answer (decode b) (record-accepted b (length w) _ t z .0 .sound) w _ _ _ (f .ensures) _
     (f .kept .1 .1 .0) (c .before .before .top-has .ensures)

@@ -17,6 +17,7 @@ pair-count-requires c κs = search needs
 returns : tie.Need-returns
 returns c = (
   refl,
+  refl,
   record {
     symbols = c .before .before .symbol-count .ensures .0;
     leaves = c .before .leaf-count .ensures .0;

@@ -6,7 +6,7 @@ use Rattle.image.specs.Refusal.{First}
 use Rattle.layout.specs.Layout.{decode}
 use Rattle.image.specs.Image.{byteRows, ruleRows, imageRows}
 use Rattle.image.proofs.Refusals.{first-hit}
-use Rattle.image.proofs.Images.{whole, by-rules, refusal, acceptance}
+use Rattle.image.proofs.Images.{bytes-name, whole, ranged, by-rules, refusal, acceptance}
 use Rattle.image.proofs.test_image.Statement.{statement}
 use Rattle.image.proofs.test_image.Tie as tie
 
@@ -20,10 +20,13 @@ returns : tie.Need-returns
 returns c =
     let b = c .before .before .before .before .args .image .now in
     let z = c .before .if1 .taken in
-    refusal (imageRows b) (decode b) _ _ z (first-hit (byteRows b) (ruleRows (decode b)) z (c .before .before .byte-refusal .ensures)) (c .refused .ensures)
+    let p = c .before .before .byte-refusal .ensures in
+    refusal (imageRows b) (decode b) _ _ _ z (first-hit (byteRows b) (ruleRows (decode b)) z p) (bytes-name b _ p) (c .refused .ensures)
 
 rule-refusal-requires : tie.Need-rule-refusal-requires
-rule-refusal-requires c κs = whole _ _ (c .if1 .left) (c .before .byte-refusal .ensures)
+rule-refusal-requires c κs =
+    let b = c .before .before .before .args .image .now in
+    (whole b _ (c .if1 .left) (c .before .byte-refusal .ensures), ranged b _ (c .if1 .left) (c .before .byte-refusal .ensures))
 
 refused-requires-2 : tie.Need-refused-requires-2
 refused-requires-2 c κs = search needs
@@ -32,8 +35,9 @@ returns-2 : tie.Need-returns-2
 returns-2 c =
     let b = c .before .before .before .before .before .before .args .image .now in
     let z = c .before .if2 .taken in
-    refusal (imageRows b) (decode b) _ _ z
-    (by-rules b _ (c .before .before .before .if1 .left) (c .before .before .before .before .byte-refusal .ensures) (c .before .before .rule-refusal .ensures))
+    let p = c .before .before .rule-refusal .ensures in
+    refusal (imageRows b) (decode b) _ _ _ z
+    (by-rules b _ (c .before .before .before .if1 .left) (c .before .before .before .before .byte-refusal .ensures) (p .number)) (p .rule)
     (c .refused2 .ensures)
 
 accepted-requires : tie.Need-accepted-requires
@@ -45,7 +49,7 @@ returns-3 c =
     let b = c .before .before .before .before .before .before .args .image .now in
     acceptance (imageRows b) (decode b) _
     (subst (First (imageRows b)) (c .before .if2 .left)
-    (by-rules b _ (c .before .before .before .if1 .left) (c .before .before .before .before .byte-refusal .ensures) (c .before .before .rule-refusal .ensures)))
+    (by-rules b _ (c .before .before .before .if1 .left) (c .before .before .before .before .byte-refusal .ensures) (c .before .before .rule-refusal .ensures .number)))
     (c .accepted .ensures)
 
 pub test-image-spec : {M : Type 1} → statement M

@@ -2,12 +2,12 @@
 -- Assumes nothing.
 use borrow.Author.Needs.{needs}
 use native.Mathlib.Omega.{arith}
-use mathlib.Core.Path.{subst⁻¹}
+use mathlib.Core.Path.{refl, subst⁻¹}
 use Rattle.image.specs.Refusal.{First}
 use Rattle.layout.specs.Layout.{decode}
 use Rattle.image.specs.Image.{imageRows, eventRows, recordRows}
 use Rattle.image.proofs.Refusals.{none, fail, pass}
-use Rattle.image.proofs.Images.{refusal, refused-first, accepted-first}
+use Rattle.image.proofs.Images.{names-none, refusal, refused-first, accepted-first}
 use Rattle.image.proofs.test_record.Statement.{statement}
 use Rattle.image.proofs.test_record.Tie as tie
 
@@ -20,6 +20,7 @@ returns c =
     let p = c .before .test-image .ensures in
     record {
       number = refused-first (imageRows (s .image .now)) (eventRows (s .events)) _ p (c .if1 .taken);
+      rule = p .rule;
       accepted = p .accepted;
       refused = p .refused;
     }
@@ -31,9 +32,10 @@ returns-2 : tie.Need-returns-2
 returns-2 c =
     let s = c .before .before .before .before .before .args in
     let b = s .image .now in
-    refusal (recordRows b (s .events)) (decode b) _ 8 (λ e. omega arith)
+    refusal (recordRows b (s .events)) (decode b) _ 8 0 (λ e. omega arith)
     (accepted-first (imageRows b) (eventRows (s .events)) _ (c .before .before .before .test-image .ensures) (omega arith) (c .before .before .if1 .left)
     (fail (λ h. omega arith)))
+    (names-none (λ e. omega arith) (λ e. omega arith) refl)
     (c .refused .ensures)
 
 returns-3 : tie.Need-returns-3
@@ -46,6 +48,7 @@ returns-3 c =
       number =
           subst⁻¹ (First (recordRows b (s .events))) e
           (accepted-first (imageRows b) (eventRows (s .events)) _ p (omega arith) e (pass (c .if2 .left) none));
+      rule = p .rule;
       accepted = p .accepted;
       refused = p .refused;
     }

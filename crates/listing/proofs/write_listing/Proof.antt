@@ -7,6 +7,7 @@ use native.Mathlib.Omega.{arith}
 use lib.ListN.{length, take}
 use lib.Seq.{length-take-le, take-at}
 use Rattle.layout.specs.Layout.{decode}
+use Rattle.image.proofs.Images.{names-none}
 use Rattle.text.specs.Text.{words}
 use Rattle.text.proofs.Pairs.{length-words}
 use Rattle.listing.specs.Listing.{listing}
@@ -37,7 +38,14 @@ returns-2 c =
       short = λ h. absurd (omega (arith, h, c .before .before .before .before .before .before .if1 .left));
       enough = λ _. (
         c .before .before .write-refused .ensures .0,
-        record { number = _; first = c .before .before .before .before .before .program-refusal .ensures; refused = λ _. c .before .before .write-refused .ensures .1; listed = λ z. absurd (c .before .before .before .before .if2 .taken z) },
+        record {
+          number = _;
+          rule = _;
+          first = c .before .before .before .before .before .program-refusal .ensures .number;
+          names = c .before .before .before .before .before .program-refusal .ensures .rule;
+          refused = λ _. c .before .before .write-refused .ensures .1;
+          listed = λ z. absurd (c .before .before .before .before .if2 .taken z);
+        },
       );
     }
 
@@ -45,17 +53,17 @@ slice-aggregate-read-words : tie.Need-slice-aggregate-read-words
 slice-aggregate-read-words c = search needs
 
 read-words-requires : tie.Need-read-words-requires
-read-words-requires c κs = let p = passed (c .before .before .before .before .before .before .before .args .image .now) (c .before .before .before .before .before .before .before .args .events .now) _ (c .before .if2 .left) (c .before .before .program-refusal .ensures) in omega (arith, p .bytes)
+read-words-requires c κs = let p = passed (c .before .before .before .before .before .before .before .args .image .now) (c .before .before .before .before .before .before .before .args .events .now) _ (c .before .if2 .left) (c .before .before .program-refusal .ensures .number) in omega (arith, p .bytes)
 
 array-share-prefix-room : tie.Need-array-share-prefix-room
-array-share-prefix-room c = let p = passed (c .before .before .before .before .before .before .before .before .before .args .image .now) (c .before .before .before .before .before .before .before .before .before .args .events .now) _ (c .before .before .before .if2 .left) (c .before .before .before .before .program-refusal .ensures) in omega (arith, p .bytes, c .before .read-words .ensures .0)
+array-share-prefix-room c = let p = passed (c .before .before .before .before .before .before .before .before .before .args .image .now) (c .before .before .before .before .before .before .before .before .before .args .events .now) _ (c .before .before .before .if2 .left) (c .before .before .before .before .program-refusal .ensures .number) in omega (arith, p .bytes, c .before .read-words .ensures .0)
 
 slice-aggregate-write-readings : tie.Need-slice-aggregate-write-readings
-slice-aggregate-write-readings c = let p = passed (c .before .before .before .before .before .before .before .before .before .before .args .image .now) (c .before .before .before .before .before .before .before .before .before .before .args .events .now) _ (c .before .before .before .before .if2 .left) (c .before .before .before .before .before .program-refusal .ensures) in sym (length-take-le _ _ (omega (arith, p .bytes, c .before .before .read-words .ensures .0)))
+slice-aggregate-write-readings c = let p = passed (c .before .before .before .before .before .before .before .before .before .before .args .image .now) (c .before .before .before .before .before .before .before .before .before .before .args .events .now) _ (c .before .before .before .before .if2 .left) (c .before .before .before .before .before .program-refusal .ensures .number) in sym (length-take-le _ _ (omega (arith, p .bytes, c .before .before .read-words .ensures .0)))
 
 write-readings-requires : tie.Need-write-readings-requires
 write-readings-requires c κs =
-    let p = passed (c .before .before .before .before .before .before .before .before .before .before .before .args .image .now) (c .before .before .before .before .before .before .before .before .before .before .before .args .events .now) _ (c .before .before .before .before .before .if2 .left) (c .before .before .before .before .before .before .program-refusal .ensures) in
+    let p = passed (c .before .before .before .before .before .before .before .before .before .before .before .args .image .now) (c .before .before .before .before .before .before .before .before .before .before .before .args .events .now) _ (c .before .before .before .before .before .if2 .left) (c .before .before .before .before .before .before .program-refusal .ensures .number) in
     let e = taken (c .before .before .before .before .before .before .before .before .before .before .before .args .events .now) _ _ _ (c .before .before .before .read-words .ensures .0) (c .before .before .before .read-words .ensures .1) in
     (p .image, ((rw e (p .few), rw e (p .fits)), omega (arith, c .before .before .before .before .before .before .before .if1 .left)))
 
@@ -71,7 +79,9 @@ returns-3 c =
         c .before .before .write-readings .ensures .0,
         record {
           number = 0;
-          first = rw (c .before .before .before .before .before .before .before .before .if2 .left) at (c .before .before .before .before .before .before .before .before .before .program-refusal .ensures);
+          rule = 0;
+          first = rw (c .before .before .before .before .before .before .before .before .if2 .left) at (c .before .before .before .before .before .before .before .before .before .program-refusal .ensures .number);
+          names = names-none (λ e. omega arith) (λ e. omega arith) refl;
           refused = λ z. absurd (z refl);
           listed = λ _. c .before .before .write-readings .ensures .1 ∙ ap (listing (decode (c .before .before .before .before .before .before .before .before .before .before .before .before .before .before .args .image .now))) e;
         },

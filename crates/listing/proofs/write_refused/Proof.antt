@@ -1,7 +1,11 @@
--- Each piece stands behind the one before, and all of them are short.
+-- The word, and behind it the line of the numbers that tell the refusal, at most two.
 -- Assumes nothing.
+use mathlib.Core.Path.{sym, ap₂, _∙_}
+use mathlib.Core.List.{List, [], _∷_, _++_}
+use Prim.Native.Nat.{ℕ}
 use native.Mathlib.Omega.{arith}
-use Rattle.listing.proofs.Lists.{refused-text}
+use lib.Seq.{length-take-le}
+use Rattle.text.specs.Text.{line}
 use borrow.Author.Needs.{needs}
 use Rattle.listing.proofs.write_refused.Statement.{statement}
 use Rattle.listing.proofs.write_refused.Tie as tie
@@ -12,17 +16,33 @@ slice-aggregate-put-bytes c = search needs
 put-bytes-requires : tie.Need-put-bytes-requires
 put-bytes-requires c κs = search needs
 
-put-number-requires : tie.Need-put-number-requires
-put-number-requires c κs = search needs
+told-requires : tie.Need-told-requires
+told-requires c κs = search needs
 
-put-byte-requires : tie.Need-put-byte-requires
-put-byte-requires c κs = search needs
+array-share-prefix-words : tie.Need-array-share-prefix-words
+array-share-prefix-words c = search needs
+
+slice-aggregate-put-line : tie.Need-slice-aggregate-put-line
+slice-aggregate-put-line c = sym (length-take-le _ _ (c .before .before .told .ensures .0))
+
+put-line-requires : tie.Need-put-line-requires
+put-line-requires c κs =
+    let s = c .before .before .before .before .before .before .before .before .before in
+    let n = c .before .before .told .ensures .0 in
+    omega (arith, n, length-take-le _ (s .args .number ∷ s .args .rule ∷ []) n, c .before .before .before .before .before .put-bytes .ensures .0)
 
 same-length : tie.Need-same-length
 same-length c = search needs
 
 returns : tie.Need-returns
-returns c = (omega (arith, c .before .before .put-byte .ensures .0), refused-text _ _ _ _ _ (c .before .before .before .before .before .before .before .before .before .before .put-bytes .ensures .1) (c .before .before .before .before .before .before .put-number .ensures .1) (c .before .before .put-byte .ensures .1))
+returns c =
+    let p = c .before .before .put-line .ensures in
+    let t = c .before .before .before .before .before .told .ensures in
+    let b = c .before .before .before .before .before .before .before .before .put-bytes .ensures in
+    let s = c .before .before .before .before .before .before .before .before .before .before .before .before in (
+      omega (arith, p .0, t .0, length-take-le _ (s .args .number ∷ s .args .rule ∷ []) (t .0), b .0),
+      p .1 ∙ ap₂ (λ (x y : List ℕ). x ++ line y) (b .1) (t .1 (s .args .rule)),
+    )
 
 pub write-refused-spec : {M : Type 1} → statement M
 write-refused-spec =
@@ -30,7 +50,9 @@ write-refused-spec =
     (tie.spec
     slice-aggregate-put-bytes
     put-bytes-requires
-    put-number-requires
-    put-byte-requires
+    told-requires
+    array-share-prefix-words
+    slice-aggregate-put-line
+    put-line-requires
     same-length
     returns)

@@ -2,7 +2,7 @@
 -- Assumes nothing.
 use mathlib.Core.Path.{refl}
 use native.Mathlib.Omega.{arith}
-use Rattle.image.proofs.Images.{record-accepted}
+use Rattle.image.proofs.Images.{names-none, record-accepted}
 use borrow.Author.Needs.{needs}
 use Rattle.readings.proofs.check.Statement.{statement}
 use Rattle.readings.proofs.check.Tie as tie
@@ -11,7 +11,12 @@ test-record-requires : tie.Need-test-record-requires
 test-record-requires c κs = search needs
 
 returns : tie.Need-returns
-returns c = record { number = c .before .test-record .ensures .number; refused = λ _. refl; answered = λ z. absurd (c .if1 .taken z) }
+returns c = record {
+  number = c .before .test-record .ensures .number;
+  rule = c .before .test-record .ensures .rule;
+  refused = λ _. refl;
+  answered = λ z. absurd (c .if1 .taken z);
+}
 
 is-reading-requires : tie.Need-is-reading-requires
 is-reading-requires c κs = let a = record-accepted _ _ _ (c .before .test-record .ensures) (c .if1 .left) in (a .0, omega (arith, a .1))
@@ -20,6 +25,7 @@ returns-2 : tie.Need-returns-2
 returns-2 c =
     record {
       number = rw (c .before .if1 .left) at (c .before .before .test-record .ensures .number);
+      rule = names-none (λ e. omega arith) (λ e. omega arith) refl;
       refused = λ z. absurd (z refl);
       answered = λ _. c .is-reading .ensures;
     }

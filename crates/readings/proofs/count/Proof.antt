@@ -2,6 +2,7 @@
 -- Assumes nothing.
 use mathlib.Core.Path.{refl}
 use native.Mathlib.Omega.{arith}
+use Rattle.image.proofs.Images.{names-none}
 use Rattle.table.proofs.Tables.{total-is}
 use Rattle.readings.proofs.Refuses.{count-ok}
 use borrow.Author.Needs.{needs}
@@ -14,20 +15,21 @@ count-refusal-requires c κs = search needs
 returns : tie.Need-returns
 returns c =
     record {
-      number = c .before .count-refusal .ensures;
+      number = c .before .count-refusal .ensures .number;
+      rule = c .before .count-refusal .ensures .rule;
       refused = λ _. record { total = refl; kept = refl };
       answered = λ z. absurd (c .if1 .taken z);
     }
 
 fill-table-requires : tie.Need-fill-table-requires
-fill-table-requires c κs = let o = count-ok (c .before .before .before .before .before .before .args .image .now) _ _ _ (c .before .if1 .left) (c .before .before .count-refusal .ensures) in (o .image, (omega (arith, o .few), o .fits))
+fill-table-requires c κs = let o = count-ok (c .before .before .before .before .before .before .args .image .now) _ _ _ (c .before .if1 .left) (c .before .before .count-refusal .ensures .number) in (o .image, (omega (arith, o .few), o .fits))
 
 symbol-count-requires : tie.Need-symbol-count-requires
-symbol-count-requires c κs = count-ok (c .before .before .before .before .before .before .before .before .before .args .image .now) _ _ _ (c .before .before .before .before .if1 .left) (c .before .before .before .before .before .count-refusal .ensures) .image .whole .long
+symbol-count-requires c κs = count-ok (c .before .before .before .before .before .before .before .before .before .args .image .now) _ _ _ (c .before .before .before .before .if1 .left) (c .before .before .before .before .before .count-refusal .ensures .number) .image .whole .long
 
 total-in-requires : tie.Need-total-in-requires
 total-in-requires c κs =
-    let o = count-ok (c .before .before .before .before .before .before .before .before .before .before .before .args .image .now) _ _ _ (c .before .before .before .before .before .before .if1 .left) (c .before .before .before .before .before .before .before .count-refusal .ensures) in
+    let o = count-ok (c .before .before .before .before .before .before .before .before .before .before .before .args .image .now) _ _ _ (c .before .before .before .before .before .before .if1 .left) (c .before .before .before .before .before .before .before .count-refusal .ensures .number) in
     let n = c .before .symbol-count .ensures .0 in
     (rw n (o .image .sound .range .some), rw n (o .image .sound .range .symbols), omega (arith, o .few), rw (n, c .before .before .before .before .fill-table .ensures .long) (o .fits))
 
@@ -36,11 +38,12 @@ same-length c = search needs
 
 returns-2 : tie.Need-returns-2
 returns-2 c =
-    let o = count-ok (c .before .before .before .before .before .before .before .before .before .before .before .before .args .image .now) _ _ _ (c .before .before .before .before .before .before .before .if1 .left) (c .before .before .before .before .before .before .before .before .count-refusal .ensures) in
+    let o = count-ok (c .before .before .before .before .before .before .before .before .before .before .before .before .args .image .now) _ _ _ (c .before .before .before .before .before .before .before .if1 .left) (c .before .before .before .before .before .before .before .before .count-refusal .ensures .number) in
     let n = c .before .before .symbol-count .ensures .0 in
     let f = c .before .before .before .before .before .fill-table .ensures in
     record {
-      number = rw (c .before .before .before .before .before .before .before .if1 .left) at (c .before .before .before .before .before .before .before .before .count-refusal .ensures);
+      number = rw (c .before .before .before .before .before .before .before .if1 .left) at (c .before .before .before .before .before .before .before .before .count-refusal .ensures .number);
+      rule = names-none (λ e. omega arith) (λ e. omega arith) refl;
       refused = λ z. absurd (z refl);
       answered = λ _. record { total = total-is _ _ _ _ _ _ _ n refl (rw n (o .image .sound .range .some)) f (c .total-in .ensures); table = f };
     }

@@ -38,12 +38,20 @@ loop-again c = (omega arith, below-more _ _ (c .before .before .before .loop .in
 returns : tie.Need-returns Inv-loop μ-loop
 returns c = record {
   within = omega arith;
-  before = c .before .before .before .loop .inv .1;
-  fault = λ _. fails _ _ (c .if1 .left) (c .before .passes .ensures);
+  found = λ h. record {
+    within = h;
+    before = c .before .before .before .loop .inv .1;
+    fault = fails _ _ (c .if1 .left) (c .before .passes .ensures);
+  };
+  clean = λ h. absurd (omega arith);
 }
 
 returns-2 : tie.Need-returns-2 Inv-loop μ-loop
-returns-2 c = record { within = omega arith; before = c .before .loop .inv .1; fault = λ h. absurd (omega arith) }
+returns-2 c = record {
+  within = omega arith;
+  found = λ h. absurd (omega arith);
+  clean = λ h k l. c .before .loop .inv .1 k (omega arith);
+}
 
 pub first-fault-spec : {M : Type 1} → statement M
 first-fault-spec =

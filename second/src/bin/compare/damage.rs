@@ -5,6 +5,11 @@ use second::random::Random;
 /// A kind of fault: its name, and what it does. An image too short for it stays as it is.
 type Fault = (&'static str, fn(&mut Random, &mut Vec<u8>));
 
+/// A fault of one rule, given where it starts; the first stays as it is if one before it is needed.
+type RuleFault = fn(&mut Random, &mut [u8], usize);
+
+pub const RULE_FAULTS: [RuleFault; 3] = [out_of_range, repeat, swap];
+
 pub const FAULTS: [Fault; 14] = [
     ("cut anywhere", |random, image| {
         let length = random.below(image.len() + 1);
@@ -59,22 +64,13 @@ pub const FAULTS: [Fault; 14] = [
         change(image, place, byte ^ 1 << bit);
     }),
     ("symbol out of range", |random, image| {
-        if let Some(rule) = any_rule(random, image) {
-            let place = rule + random.below(3);
-            image[place] = image[5].max(random.word() as u8);
-        }
+        in_any_rule(random, image, out_of_range);
     }),
     ("rule repeated", |random, image| {
-        match any_rule(random, image) {
-            Some(rule) if rule > 10 => image.copy_within(rule - 3..rule, rule),
-            _ => (),
-        }
+        in_any_rule(random, image, repeat);
     }),
     ("two rules swapped", |random, image| {
-        match any_rule(random, image) {
-            Some(rule) if rule > 10 => image[rule - 3..rule + 3].rotate_left(3),
-            _ => (),
-        }
+        in_any_rule(random, image, swap);
     }),
     ("random bytes", |random, image| {
         // Sometimes the header stays, or the mark and the version.
@@ -91,8 +87,29 @@ fn change(image: &mut [u8], place: usize, byte: u8) {
     }
 }
 
-/// Where a rule starts that is in the image whole.
-fn any_rule(random: &mut Random, image: &[u8]) -> Option<usize> {
+/// In a rule that is in the image whole, if there is one.
+fn in_any_rule(random: &mut Random, image: &mut [u8], fault: RuleFault) {
     let rules = image.len().saturating_sub(10) / 3;
-    (rules > 0).then(|| 10 + 3 * random.below(rules))
+    if rules > 0 {
+        let start = 10 + 3 * random.below(rules);
+        fault(random, image, start);
+    }
+}
+
+/// A byte of the rule, so that in an event rule it may be the event that changes.
+fn out_of_range(random: &mut Random, image: &mut [u8], start: usize) {
+    let place = start + random.below(3);
+    image[place] = image[5].max(random.word() as u8);
+}
+
+fn repeat(_: &mut Random, image: &mut [u8], start: usize) {
+    if start > 10 {
+        image.copy_within(start - 3..start, start);
+    }
+}
+
+fn swap(_: &mut Random, image: &mut [u8], start: usize) {
+    if start > 10 {
+        image[start - 3..start + 3].rotate_left(3);
+    }
 }

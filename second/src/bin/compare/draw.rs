@@ -1,5 +1,7 @@
-//! Random images, all of them accepted or just too large, and records that meet their rules.
+//! Random images, accepted but for those that are just too large or have rules at fault, and
+//! records that meet their rules.
 
+use crate::damage::RULE_FAULTS;
 use second::examples::{any_image, any_symbol, binary, chain, digits, image, stop};
 use second::image::decode;
 use second::random::Random;
@@ -12,14 +14,15 @@ type Drawn = (Vec<u8>, Vec<u16>);
 /// A name, how many of a thousand cases are of this kind, and how one is drawn.
 type Kind = (&'static str, usize, fn(&mut Random) -> Drawn);
 
-pub const KINDS: [Kind; 10] = [
+pub const KINDS: [Kind; 11] = [
     ("chain", 40, chain_case),
     ("stop", 30, stop_case),
     ("binary", 100, binary_case),
     ("product", 50, product_case),
-    ("dense", 330, dense_case),
-    ("sparse", 330, sparse_case),
+    ("dense", 315, dense_case),
+    ("sparse", 315, sparse_case),
     ("wide", 86, wide_case),
+    ("faulty", 30, faulty_case),
     ("limits", 20, limits_case),
     ("long", 13, long_case),
     ("largest", 1, largest_case),
@@ -141,6 +144,29 @@ fn wide_case(random: &mut Random) -> Drawn {
     let image = any_image(random, symbols, &kinds, event_rules, pair_rules);
     let most = random.one_of(&[2, 4, 8, 12]);
     let events = any_record(random, &image, &kinds, most);
+    (image, events)
+}
+
+/// Many rules, some of them at fault: any, or one whose number is easily got wrong.
+fn faulty_case(random: &mut Random) -> Drawn {
+    let (mut image, events) = match random.below(2) {
+        0 => wide_case(random),
+        _ => full_case(random, 64, 512, 256, 3),
+    };
+    let grammar = decode(&image).expect("an accepted image");
+    let first_pair = grammar.event_rules.len();
+    let end = first_pair + grammar.pair_rules.len();
+    for _ in 0..random.within(1, 4) {
+        let rule = match random.below(8) {
+            0 => random.one_of(&[0, 1, 255, 256]),
+            1 => (first_pair + random.below(4)).saturating_sub(2),
+            2 => end.saturating_sub(1),
+            _ => random.below(end.max(1)),
+        };
+        if rule < end {
+            random.one_of(&RULE_FAULTS)(random, &mut image, 10 + 3 * rule);
+        }
+    }
     (image, events)
 }
 

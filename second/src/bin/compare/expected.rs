@@ -2,6 +2,7 @@
 
 use crate::damage::FAULTS;
 use crate::draw::KINDS;
+use crate::remarks::REMARKS;
 use crate::scripts::CHANGES;
 
 /// The numbers of each service.
@@ -51,6 +52,10 @@ pub fn expected() -> Vec<String> {
     let mut all = Vec::new();
     for (service, numbers) in NUMBERS {
         all.extend(numbers.iter().map(|n| format!("{service}: number {n}")));
+        for (remark, numbers, _) in REMARKS {
+            let lines = numbers.iter();
+            all.extend(lines.map(|n| format!("{service}: number {n}, {remark}")));
+        }
     }
     for (service, _) in &NUMBERS[1..] {
         all.extend(LENGTHS.map(|(n, number)| format!("{service}: {n} events, number {number}")));

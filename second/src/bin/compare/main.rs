@@ -7,6 +7,7 @@ mod draw;
 mod expected;
 mod lent;
 mod plan;
+mod remarks;
 mod scripts;
 mod setting;
 mod sides;
@@ -14,6 +15,7 @@ mod tally;
 
 use damage::FAULTS;
 use plan::{Plan, Step};
+use remarks::remarks;
 use second::random::Random;
 use second::services::MOST_EVENTS;
 use setting::Call;
@@ -124,9 +126,13 @@ fn note_length(tally: &mut Tally, step: &Step, number: u8) {
     }
 }
 
-fn note(tally: &mut Tally, step: &Step, Answer { number, rest }: Answer) {
+fn note(tally: &mut Tally, step: &Step, answer: Answer) {
+    let Answer { number, rest, .. } = answer;
     let service = step.setting.service();
     tally.add(format!("{service}: number {number}"));
+    for remark in remarks(step.setting.image.slice(), &answer) {
+        tally.add(format!("{service}: number {number}, {remark}"));
+    }
     note_length(tally, step, number);
     match step.setting.call {
         Call::Reading { k, .. } if k >= 4_294_967_294 && [0, 12, 13].contains(&number) => {

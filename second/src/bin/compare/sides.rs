@@ -2,11 +2,12 @@
 
 use second::services;
 
-/// A refusal's number, or 0, and then the service's other answers in the order of the C function;
-/// 0 where a service has fewer.
+/// A refusal's number, or 0, the rule at fault, and then the service's other answers in the order
+/// of the C function; 0 where a service has fewer.
 #[derive(Clone, Copy, Debug, PartialEq)]
 pub struct Answer {
     pub number: u8,
+    pub rule: u16,
     pub rest: [u64; 3],
 }
 
@@ -28,24 +29,25 @@ pub const SECOND: Side = Side {
     test: |image| {
         let tested = services::test(image);
         let counts = [tested.symbols, tested.event_rules, tested.pair_rules];
-        answer(tested.number, counts.map(|count| count as u64))
+        let rest = counts.map(|count| count as u64);
+        answer(tested.number, tested.rule, rest)
     },
     judge: |image, events, chart| {
         let judged = services::judge(image, events, chart);
         let rest = [judged.admitted.into(), judged.items, judged.firings];
-        answer(judged.number, rest)
+        answer(judged.number, judged.rule, rest)
     },
     count: |image, events, table| {
         let counted = services::count(image, events, table);
-        answer(counted.number, [counted.total.into(), 0, 0])
+        answer(counted.number, counted.rule, [counted.total.into(), 0, 0])
     },
     reading: |image, events, k, table, script| {
-        let number = services::reading(image, events, k, table, script);
-        answer(number, [0; 3])
+        let read = services::reading(image, events, k, table, script);
+        answer(read.number, read.rule, [0; 3])
     },
     check: |image, events, script| {
         let checked = services::check(image, events, script);
-        answer(checked.number, [checked.yes.into(), 0, 0])
+        answer(checked.number, checked.rule, [checked.yes.into(), 0, 0])
     },
 };
 
@@ -57,8 +59,8 @@ pub const PROVED: Side = Side {
     check: proved_check,
 };
 
-fn answer(number: u8, rest: [u64; 3]) -> Answer {
-    Answer { number, rest }
+fn answer(number: u8, rule: u16, rest: [u64; 3]) -> Answer {
+    Answer { number, rule, rest }
 }
 
 // A yes or no is taken as a byte, so that one that is neither 0 nor 1 is seen.
@@ -67,6 +69,7 @@ extern "C" {
     fn reader_test(
         image: *const u8,
         image_len: usize,
+        rule: *mut u16,
         symbols: *mut usize,
         leaves: *mut usize,
         pairs: *mut usize,
@@ -78,6 +81,7 @@ extern "C" {
         events_len: usize,
         chart: *mut u64,
         chart_len: usize,
+        rule: *mut u16,
         admitted: *mut u8,
         items: *mut u64,
         firings: *mut u64,
@@ -89,6 +93,7 @@ extern "C" {
         events_len: usize,
         table: *mut u32,
         table_len: usize,
+        rule: *mut u16,
         total: *mut u32,
     ) -> u8;
     fn reader_reading(
@@ -101,6 +106,7 @@ extern "C" {
         table_len: usize,
         script: *mut u16,
         script_len: usize,
+        rule: *mut u16,
     ) -> u8;
     fn reader_check(
         image: *const u8,
@@ -109,6 +115,7 @@ extern "C" {
         events_len: usize,
         script: *const u16,
         script_len: usize,
+        rule: *mut u16,
         yes: *mut u8,
     ) -> u8;
 }
@@ -119,21 +126,24 @@ extern "C" {
 // The locals hold what no answer is, so that one left unwritten is seen.
 
 fn proved_test(image: &[u8]) -> Answer {
-    let [mut symbols, mut leaves, mut pairs] = [usize::MAX; 3];
+    let (mut rule, [mut symbols, mut leaves, mut pairs]) = (u16::MAX, [usize::MAX; 3]);
     let number = unsafe {
         reader_test(
             image.as_ptr(),
             image.len(),
+            &mut rule,
             &mut symbols,
             &mut leaves,
             &mut pairs,
         )
     };
-    answer(number, [symbols, leaves, pairs].map(|count| count as u64))
+    let rest = [symbols, leaves, pairs].map(|count| count as u64);
+    answer(number, rule, rest)
 }
 
 fn proved_judge(image: &[u8], events: &[u16], chart: &mut [u64]) -> Answer {
-    let (mut admitted, mut items, mut firings) = (u8::MAX, u64::MAX, u64::MAX);
+    let (mut rule, mut admitted) = (u16::MAX, u8::MAX);
+    let (mut items, mut firings) = (u64::MAX, u64::MAX);
     let number = unsafe {
         reader_judge(
             image.as_ptr(),
@@ -142,17 +152,18 @@ fn proved_judge(image: &[u8], events: &[u16], chart: &mut [u64]) -> Answer {
             events.len(),
             chart.as_mut_ptr(),
             chart.len(),
+            &mut rule,
             &mut admitted,
             &mut items,
             &mut firings,
         )
     };
-    answer(number, [admitted.into(), items, firings])
+    answer(number, rule, [admitted.into(), items, firings])
 }
 
 fn proved_count(image: &[u8], events: &[u16], table: &mut [u32]) -> Answer {
     // Any total may be right here or there; this one hardly ever is.
-    let mut total = 0x5A5A_5A5A;
+    let (mut rule, mut total) = (u16::MAX, 0x5A5A_5A5A);
     let number = unsafe {
         reader_count(
             image.as_ptr(),
@@ -161,10 +172,11 @@ fn proved_count(image: &[u8], events: &[u16], table: &mut [u32]) -> Answer {
             events.len(),
             table.as_mut_ptr(),
             table.len(),
+            &mut rule,
             &mut total,
         )
     };
-    answer(number, [total.into(), 0, 0])
+    answer(number, rule, [total.into(), 0, 0])
 }
 
 fn proved_reading(
@@ -174,6 +186,7 @@ fn proved_reading(
     table: &mut [u32],
     script: &mut [u16],
 ) -> Answer {
+    let mut rule = u16::MAX;
     let number = unsafe {
         reader_reading(
             image.as_ptr(),
@@ -185,13 +198,14 @@ fn proved_reading(
             table.len(),
             script.as_mut_ptr(),
             script.len(),
+            &mut rule,
         )
     };
-    answer(number, [0; 3])
+    answer(number, rule, [0; 3])
 }
 
 fn proved_check(image: &[u8], events: &[u16], script: &[u16]) -> Answer {
-    let mut yes = u8::MAX;
+    let (mut rule, mut yes) = (u16::MAX, u8::MAX);
     let number = unsafe {
         reader_check(
             image.as_ptr(),
@@ -200,8 +214,9 @@ fn proved_check(image: &[u8], events: &[u16], script: &[u16]) -> Answer {
             events.len(),
             script.as_ptr(),
             script.len(),
+            &mut rule,
             &mut yes,
         )
     };
-    answer(number, [yes.into(), 0, 0])
+    answer(number, rule, [yes.into(), 0, 0])
 }

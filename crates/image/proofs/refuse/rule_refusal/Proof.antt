@@ -1,9 +1,13 @@
--- Where the first fault is below the number of rules a demand fails; else every rule meets it.
+-- Where the first fault is below the number of rules a demand fails, and it is the rule that is named; else every rule meets it. There are at most
+-- 768 rules, so that a number of theirs fits 16 bits.
 -- Assumes nothing.
 use borrow.Author.Needs.{needs}
 use native.Mathlib.Omega.{arith}
-use Rattle.rules.proofs.Faults.{every-of, not-every}
+use mathlib.Core.Path.{refl}
+use Rattle.layout.proofs.Decoded.{leaf-count, pair-count}
+use Rattle.rules.proofs.Faults.{not-every}
 use Rattle.image.proofs.Refusals.{none, fail, pass}
+use Rattle.image.proofs.Images.{names-none, names-unfit, names-low}
 use Rattle.image.proofs.refuse.rule_refusal.Statement.{statement}
 use Rattle.image.proofs.refuse.rule_refusal.Tie as tie
 
@@ -13,23 +17,43 @@ rule-count-requires c κs = search needs
 first-fault-requires : tie.Need-first-fault-requires
 first-fault-requires c κs = search needs
 
+cast-rule : tie.Need-cast-rule
+cast-rule c =
+    let s = c .before .before .before .before in
+    let b = s .args .image .now in
+    omega (arith, s .pre .1 .leaves, s .pre .1 .pairs, leaf-count b, pair-count b)
+
 returns : tie.Need-returns
-returns c = fail (not-every _ _ _ (omega arith) (c .before .first-fault .ensures))
+returns c =
+    let f = c .before .first-fault .ensures .found (omega arith) in
+    record { number = fail (not-every f); rule = names-unfit f }
 
 first-fault-requires-2 : tie.Need-first-fault-requires-2
 first-fault-requires-2 c κs = search needs
 
+cast-rule-2 : tie.Need-cast-rule-2
+cast-rule-2 c =
+    let s = c .before .before .before .before .before .before in
+    let b = s .args .image .now in
+    omega (arith, s .pre .1 .leaves, s .pre .1 .pairs, leaf-count b, pair-count b)
+
 returns-2 : tie.Need-returns-2
 returns-2 c =
-    pass (every-of _ _ _ (omega arith) (c .before .before .before .first-fault .ensures))
-    (fail (not-every _ _ _ (omega arith) (c .before .first-fault2 .ensures)))
+    let f = c .before .first-fault2 .ensures .found (omega arith) in
+    record {
+      number = pass (c .before .before .before .first-fault .ensures .clean (omega arith)) (fail (not-every f));
+      rule = names-low f;
+    }
 
 returns-3 : tie.Need-returns-3
-returns-3 c =
-    pass (every-of _ _ _ (omega arith) (c .before .before .before .first-fault .ensures))
-    (pass (every-of _ _ _ (omega arith) (c .before .first-fault2 .ensures)) none)
+returns-3 c = record {
+  number =
+      pass (c .before .before .before .first-fault .ensures .clean (omega arith))
+      (pass (c .before .first-fault2 .ensures .clean (omega arith)) none);
+  rule = names-none (λ e. omega arith) (λ e. omega arith) refl;
+}
 
 pub rule-refusal-spec : {M : Type 1} → statement M
 rule-refusal-spec =
     tie.close
-    (tie.spec rule-count-requires first-fault-requires returns first-fault-requires-2 returns-2 returns-3)
+    (tie.spec rule-count-requires first-fault-requires cast-rule returns first-fault-requires-2 cast-rule-2 returns-2 returns-3)

@@ -21,17 +21,14 @@ slice-aggregate-check c = sym (length-take-le _ _ (c .before .before .read-words
 check-requires : tie.Need-check-requires
 check-requires c κs = search needs
 
+write-refusal-requires : tie.Need-write-refusal-requires
+write-refusal-requires c κs = search needs
+
 cast-value : tie.Need-cast-value
 cast-value c = search needs
 
 value-requires : tie.Need-value-requires
 value-requires c κs = search needs
-
-cast-value-2 : tie.Need-cast-value-2
-cast-value-2 c = search needs
-
-value-requires-2 : tie.Need-value-requires-2
-value-requires-2 c κs = search needs
 
 returns : tie.Need-returns
 returns c = search needs
@@ -45,8 +42,7 @@ check-spec =
     array-share-prefix-script
     slice-aggregate-check
     check-requires
+    write-refusal-requires
     cast-value
     value-requires
-    cast-value-2
-    value-requires-2
     returns)
