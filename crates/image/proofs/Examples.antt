@@ -1,6 +1,7 @@
--- The images of 01 and what the table says of them, by computing; and the most cells and firings that 02 names.
+-- The images of 01, what the table says of them, by computing, and which rule it names; and the most cells and firings that 02 names.
 -- Assumes nothing.
 use native.Mathlib.Decide.{ℕ-discrete, decLe, decLt}
+use native.Mathlib.Omega.{arith}
 use mathlib.Core.Logic.{Dec·and, Dec·not}
 use mathlib.Core.Path.{_≡_, refl}
 use mathlib.Core.List.{List, [], _∷_}
@@ -8,8 +9,10 @@ use Prim.Native.Nat.{ℕ}
 use Rattle.derivation.specs.Sound.{mostSymbols, mostPairs}
 use Rattle.derivation.specs.Chart.{cells, firingsBound}
 use Rattle.derivation.specs.Examples.{chain, stop}
+use Rattle.derivation.proofs.Orders.{not-before-self}
 use Rattle.layout.specs.Layout.{rulesFrom, counting, decode}
-use Rattle.image.specs.Image.{mostEvents}
+use Rattle.image.specs.Image.{mostEvents, Names}
+use Rattle.image.proofs.Images.{names-low}
 use Rattle.image.proofs.Decided.{pick, answer, decided-both, dec-as, dec-implies, dec-either, dec-every, dec-before, marked?, range?, fit?, rises?, bytes-decided, rules-decided, image-decided, imageRefusal}
 
 unfoldable pub chainImage : List ℕ
@@ -38,6 +41,11 @@ stop-shown = refl
 pub refusals : (imageRefusal chainImage ∷ imageRefusal stopImage ∷ imageRefusal twiceImage ∷ []) ≡ 0 ∷ 0 ∷ 7 ∷ []
 unfolding imageRefusal image-decided bytes-decided rules-decided decided-both answer pick marked? range? fit? rises? dec-every dec-before dec-as dec-either dec-implies Dec·and Dec·not decode counting rulesFrom chainImage stopImage twiceImage ℕ-discrete decLe decLt
 refusals = refl
+
+-- which names rule 1: rule 0 has no predecessor, and no rule is before itself
+pub twice-named : Names (decode twiceImage) 7 1
+unfolding decode counting rulesFrom twiceImage
+twice-named = names-low (record { within = omega arith; before = λ r l z. absurd (omega arith); fault = λ h. not-before-self (h (omega arith) (λ e. omega arith)) })
 
 -- at the largest values: the cells, and the most firings
 pub largest : (cells mostEvents ∷ firingsBound mostEvents mostSymbols mostPairs ∷ []) ≡ 4656 ∷ 37750784 ∷ []
