@@ -2,14 +2,14 @@
 -- Assumes nothing.
 use mathlib.Core.Path.{_≡_, refl}
 use mathlib.Core.Logic.{_⊎_, inl, inr, _≢_, ⊎-elim}
-use mathlib.Core.List.{List, [], _∷_, _++_}
+use mathlib.Core.List.{List, _++_}
 use Prim.Native.Nat.{ℕ, _≤_, _<_}
 use native.Mathlib.Decide.{decLt}
 use native.Mathlib.Omega.{arith}
 use Rattle.derivation.specs.Grammar.{Grammar}
 use Rattle.derivation.specs.Tree.{scriptWords}
 use Rattle.layout.specs.Layout.{decode}
-use Rattle.image.specs.Refusal.{Row, _unless_, FirstOf, First}
+use Rattle.image.specs.Refusal.{Row, FirstOf, First}
 use Rattle.image.specs.Image.{mostEvents, recordRows, Names, Accepted}
 use Rattle.image.proofs.Refusals.{AllHold, none, fail, pass, all-hold, all-front, all-back, early-rows, under, reached}
 use Rattle.image.proofs.Images.{names-none, record-holding}
