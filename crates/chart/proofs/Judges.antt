@@ -28,7 +28,7 @@ use Rattle.layout.specs.Layout.{decode}
 use Rattle.image.specs.Refusal.{First}
 use Rattle.image.specs.Image.{Names}
 use Rattle.image.proofs.Refusals.{first-only}
-use Rattle.image.proofs.Images.{names-same, names-none}
+use Rattle.image.proofs.Named.{names-same, names-none}
 use Rattle.chart.specs.declared.Judged.{Judged}
 use Rattle.chart.specs.Fill.{rd, Columns, onesTo}
 use Rattle.chart.specs.Judge.{judgeRows, Shows, Answered, JudgeIs}

@@ -12,7 +12,7 @@ use Rattle.derivation.specs.Examples.{chain, stop}
 use Rattle.derivation.proofs.Orders.{not-before-self}
 use Rattle.layout.specs.Layout.{rulesFrom, counting, decode}
 use Rattle.image.specs.Image.{mostEvents, Names}
-use Rattle.image.proofs.Images.{names-low}
+use Rattle.image.proofs.Named.{names-low}
 use Rattle.image.proofs.Decided.{pick, answer, decided-both, dec-as, dec-implies, dec-either, dec-every, dec-before, marked?, range?, fit?, rises?, bytes-decided, rules-decided, image-decided, imageRefusal}
 
 unfoldable pub chainImage : List ℕ

@@ -1,4 +1,5 @@
 pub mod Refusals
+pub mod Named
 pub mod Images
 pub mod Decided
 pub mod Long

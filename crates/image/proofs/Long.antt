@@ -13,7 +13,8 @@ use Rattle.image.specs.Refusal.{Row, _unless_, FirstOf, First}
 use Rattle.layout.specs.Layout.{headerBytes, byteAt, wordAt, rulesFrom, decode, Sized}
 use Rattle.image.specs.Image.{Marked, Ranged, byteRows, ruleRows, imageRows, Names, TestedIs, longestImage}
 use Rattle.image.proofs.Refusals.{alone, under}
-use Rattle.image.proofs.Images.{names-none, tested-accepted, accepted-short}
+use Rattle.image.proofs.Named.{names-none}
+use Rattle.image.proofs.Images.{tested-accepted, accepted-short}
 
 -- two tables, row by row: where a demand holds in both the rest decides
 carry : {k n : ℕ} {P Q : Type 0} {rows more : List Row} → (P → Q) → (Q → P) → (P → First rows n → First more n)

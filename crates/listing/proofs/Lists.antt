@@ -17,7 +17,7 @@ use Rattle.derivation.specs.Numbering.{none}
 use Rattle.derivation.proofs.Numbering.{readings-numbered}
 use Rattle.derivation.proofs.Scripts.{script-length}
 use Rattle.image.proofs.Refusals.{first-only}
-use Rattle.image.proofs.Images.{names-same}
+use Rattle.image.proofs.Named.{names-same}
 use Rattle.table.specs.Table.{limit, held}
 use Rattle.readings.specs.Count.{howMany}
 use Rattle.text.specs.Text.{line}

@@ -9,7 +9,7 @@ use Rattle.bits.proofs.Truths.{decides-only}
 use Rattle.derivation.specs.Tree.{IsReading}
 use Rattle.layout.specs.Layout.{decode}
 use Rattle.image.proofs.Refusals.{first-only}
-use Rattle.image.proofs.Images.{names-same}
+use Rattle.image.proofs.Named.{names-same}
 use Rattle.table.proofs.Tables.{filled-only}
 use Rattle.readings.specs.declared.Counted.{Counted}
 use Rattle.readings.specs.declared.Read.{Read}

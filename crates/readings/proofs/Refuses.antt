@@ -12,7 +12,8 @@ use Rattle.layout.specs.Layout.{decode}
 use Rattle.image.specs.Refusal.{Row, FirstOf, First}
 use Rattle.image.specs.Image.{mostEvents, recordRows, Names, Accepted}
 use Rattle.image.proofs.Refusals.{AllHold, none, fail, pass, all-hold, all-front, all-back, early-rows, under, reached}
-use Rattle.image.proofs.Images.{names-none, record-holding}
+use Rattle.image.proofs.Named.{names-none}
+use Rattle.image.proofs.Images.{record-holding}
 use Rattle.table.specs.Table.{limit, held, tableWords}
 use Rattle.readings.specs.Count.{tableRows, countRows}
 use Rattle.readings.specs.Reading.{roomRows, Beyond, numberRows, lentRows, Fills}

@@ -8,7 +8,8 @@ use Rattle.derivation.proofs.Columns.{cells-small}
 use Rattle.layout.specs.Layout.{decode}
 use Rattle.image.specs.Image.{recordRows}
 use Rattle.image.proofs.Refusals.{none, fail, pass}
-use Rattle.image.proofs.Images.{names-none, record-accepted, refused-first, accepted-first}
+use Rattle.image.proofs.Named.{names-none}
+use Rattle.image.proofs.Images.{record-accepted, refused-first, accepted-first}
 use Rattle.chart.specs.Fill.{onesTo}
 use Rattle.chart.specs.Judge.{chartRows}
 use Rattle.chart.proofs.Judges.{refusal, success, answer}

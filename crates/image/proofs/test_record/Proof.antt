@@ -7,7 +7,8 @@ use Rattle.image.specs.Refusal.{First}
 use Rattle.layout.specs.Layout.{decode}
 use Rattle.image.specs.Image.{imageRows, eventRows, recordRows}
 use Rattle.image.proofs.Refusals.{none, fail, pass}
-use Rattle.image.proofs.Images.{names-none, refusal, refused-first, accepted-first}
+use Rattle.image.proofs.Named.{names-none}
+use Rattle.image.proofs.Images.{refusal, refused-first, accepted-first}
 use Rattle.image.proofs.test_record.Statement.{statement}
 use Rattle.image.proofs.test_record.Tie as tie
 

@@ -7,7 +7,7 @@ use native.Mathlib.Omega.{arith}
 use lib.ListN.{length, take}
 use lib.Seq.{length-take-le, take-at}
 use Rattle.layout.specs.Layout.{decode}
-use Rattle.image.proofs.Images.{names-none}
+use Rattle.image.proofs.Named.{names-none}
 use Rattle.text.specs.Text.{words}
 use Rattle.text.proofs.Pairs.{length-words}
 use Rattle.listing.specs.Listing.{listing}

@@ -2,7 +2,8 @@
 -- Assumes nothing.
 use mathlib.Core.Path.{refl}
 use native.Mathlib.Omega.{arith}
-use Rattle.image.proofs.Images.{names-none, record-accepted}
+use Rattle.image.proofs.Named.{names-none}
+use Rattle.image.proofs.Images.{record-accepted}
 use borrow.Author.Needs.{needs}
 use Rattle.readings.proofs.check.Statement.{statement}
 use Rattle.readings.proofs.check.Tie as tie

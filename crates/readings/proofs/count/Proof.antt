@@ -2,7 +2,7 @@
 -- Assumes nothing.
 use mathlib.Core.Path.{refl}
 use native.Mathlib.Omega.{arith}
-use Rattle.image.proofs.Images.{names-none}
+use Rattle.image.proofs.Named.{names-none}
 use Rattle.table.proofs.Tables.{total-is}
 use Rattle.readings.proofs.Refuses.{count-ok}
 use borrow.Author.Needs.{needs}

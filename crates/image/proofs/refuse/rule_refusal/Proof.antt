@@ -7,7 +7,7 @@ use mathlib.Core.Path.{refl}
 use Rattle.layout.proofs.Decoded.{leaf-count, pair-count}
 use Rattle.rules.proofs.Faults.{not-every}
 use Rattle.image.proofs.Refusals.{none, fail, pass}
-use Rattle.image.proofs.Images.{names-none, names-unfit, names-low}
+use Rattle.image.proofs.Named.{names-none, names-unfit, names-low}
 use Rattle.image.proofs.refuse.rule_refusal.Statement.{statement}
 use Rattle.image.proofs.refuse.rule_refusal.Tie as tie
 

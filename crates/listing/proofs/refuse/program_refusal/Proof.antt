@@ -4,7 +4,8 @@ use mathlib.Core.Path.{refl}
 use native.Mathlib.Omega.{arith}
 use Rattle.image.specs.Image.{imageRows}
 use Rattle.image.proofs.Refusals.{none, fail, pass}
-use Rattle.image.proofs.Images.{names-none, tested-accepted, refused-first, accepted-first}
+use Rattle.image.proofs.Named.{names-none}
+use Rattle.image.proofs.Images.{tested-accepted, refused-first, accepted-first}
 use Rattle.text.proofs.Pairs.{length-words}
 use Rattle.listing.specs.Listing.{fileRows}
 use borrow.Author.Needs.{needs}

@@ -4,7 +4,8 @@ use mathlib.Core.Path.{refl}
 use native.Mathlib.Omega.{arith}
 use Rattle.image.specs.Image.{recordRows}
 use Rattle.image.proofs.Refusals.{none, fail, pass}
-use Rattle.image.proofs.Images.{names-none, record-accepted, refused-first, accepted-first}
+use Rattle.image.proofs.Named.{names-none}
+use Rattle.image.proofs.Images.{record-accepted, refused-first, accepted-first}
 use Rattle.readings.specs.Count.{tableRows}
 use borrow.Author.Needs.{needs}
 use Rattle.readings.proofs.refuse.count_refusal.Statement.{statement}

@@ -3,7 +3,7 @@
 use mathlib.Core.Path.{refl}
 use native.Mathlib.Omega.{arith}
 use Rattle.image.proofs.Refusals.{none, fail, pass, first-hit, past-zero}
-use Rattle.image.proofs.Images.{names-none}
+use Rattle.image.proofs.Named.{names-none}
 use Rattle.readings.specs.Count.{countRows}
 use Rattle.readings.specs.Reading.{roomRows}
 use Rattle.readings.proofs.Refuses.{count-ok}
