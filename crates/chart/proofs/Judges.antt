@@ -28,7 +28,7 @@ use Rattle.layout.specs.Layout.{decode}
 use Rattle.image.specs.Refusal.{First}
 use Rattle.image.specs.Image.{Names}
 use Rattle.image.proofs.Refusals.{first-only}
-use Rattle.image.proofs.Named.{names-same, names-none}
+use Rattle.image.proofs.Named.{names-same, names-before}
 use Rattle.chart.specs.declared.Judged.{Judged}
 use Rattle.chart.specs.Fill.{rd, Columns, onesTo}
 use Rattle.chart.specs.Judge.{judgeRows, Shows, Answered, JudgeIs}
@@ -79,7 +79,7 @@ module _ (b w c₀ c : List ℕ) (r : Judged) where
   pub success : r .number ≡ 0 → r .rule ≡ 0 → First (judgeRows b w c₀) 0 → Answered (decode b) w c₀ r c → JudgeIs b w c₀ r c
   success z m p a = record {
     number = subst⁻¹ (First (judgeRows b w c₀)) z p;
-    rule = names-none (λ e. omega arith) (λ e. omega arith) m;
+    rule = names-before (omega arith) m;
     refused = λ y. absurd (y z);
     answered = λ _. a;
   }

@@ -13,7 +13,7 @@ use Rattle.image.specs.Refusal.{Row, First}
 use Rattle.layout.specs.Layout.{rulesFrom, decode, Whole}
 use Rattle.image.specs.Image.{mostEvents, byteRows, ruleRows, eventRows, imageRows, recordRows, Ranged, Names, Gives, GivesCounts, TestedIs, Accepted, longestImage}
 use Rattle.image.proofs.Refusals.{AllHold, Positive, none, pass, first-only, first-zero, all-hold, all-front, all-back, first-hit, first-pass, past-zero, under}
-use Rattle.image.proofs.Named.{names-same, names-none}
+use Rattle.image.proofs.Named.{names-same, names-before}
 use Rattle.layout.proofs.Decoded.{leaf-count, pair-count, symbol-count}
 
 -- ---- one answer only
@@ -53,7 +53,7 @@ refusal rows g t n r z p m q = record {
 pub acceptance : (rows : List Row) (g : Grammar) (t : Tested) → First rows 0 → (t .number ≡ 0) × (t .rule ≡ 0) × GivesCounts t g → TestedIs rows g t
 acceptance rows g t p q = record {
   number = subst (First rows) (sym (q .0)) p;
-  rule = names-none (λ e. omega (arith, q .0)) (λ e. omega (arith, q .0)) (q .1);
+  rule = names-before (omega (arith, q .0)) (q .1);
   accepted = λ _. q .2;
   refused = λ z. absurd (z (q .0));
 }
@@ -61,9 +61,7 @@ acceptance rows g t p q = record {
 -- ---- within the test of an image
 -- a refusal by the bytes names no rule
 pub bytes-name : (b : List ℕ) {g : Grammar} (n : ℕ) → First (byteRows b) n → Names g n 0
-bytes-name b n p =
-    let l = under 6 (byteRows b) n (omega arith) p in
-    names-none (λ e. omega arith) (λ e. omega arith) refl
+bytes-name b n p = names-before (under 6 (byteRows b) n (omega arith) p) refl
 
 module _ (b : List ℕ) (n : ℕ) (e : n ≡ 0) (p : First (byteRows b) n) where
   pub bytes-hold : AllHold (byteRows b)

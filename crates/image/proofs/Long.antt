@@ -3,7 +3,7 @@
 use Prim.Native.Nat.{ℕ, _+_, _*_, _<_}
 use native.Mathlib.Omega.{arith}
 use mathlib.Core.Path.{_≡_, sym, ap₂, _∙_}
-use mathlib.Core.Logic.{inl, inr, _≢_}
+use mathlib.Core.Logic.{inl, inr}
 use mathlib.Core.List.{List, _∷_}
 use lib.ListN.{length, take}
 use lib.Seq.{getD-take, length-take-le}
@@ -13,7 +13,7 @@ use Rattle.image.specs.Refusal.{Row, _unless_, FirstOf, First}
 use Rattle.layout.specs.Layout.{headerBytes, byteAt, wordAt, rulesFrom, decode, Sized}
 use Rattle.image.specs.Image.{Marked, Ranged, byteRows, ruleRows, imageRows, Names, TestedIs, longestImage}
 use Rattle.image.proofs.Refusals.{alone, under}
-use Rattle.image.proofs.Named.{names-none}
+use Rattle.image.proofs.Named.{names-before}
 use Rattle.image.proofs.Images.{tested-accepted, accepted-short}
 
 -- two tables, row by row: where a demand holds in both the rest decides
@@ -65,9 +65,7 @@ begins-alike b d n l m e p =
 pub long-names : (b : List ℕ) (n r : ℕ) → longestImage < length b → First (imageRows b) n → Names (decode b) n r → {g : Grammar} → Names g n r
 long-names b n r l p m =
     let s = under 6 (byteRows b) n (omega arith) (alone (byteRows b) (ruleRows (decode b)) n (λ h. not-sized b l (h .1 .1 .1 .0) (h .1 .1 .1 .1 .0)) p) in
-    let six : n ≢ 6 = λ e. omega arith in
-    let seven : n ≢ 7 = λ e. omega arith in
-    names-none six seven (m .other six seven)
+    names-before s (m .other (λ e. omega arith) (λ e. omega arith))
 
 -- nobody need read more than 2,315 bytes of an image: the test of those is the test of all
 pub first-bytes : (b : List ℕ) (t : Tested) → longestImage < length b

@@ -1,4 +1,4 @@
--- The lines of the first scripts, one more at a time; and one outcome only.
+-- What is written: the numbers of a refusal, the heading, the lines of the first scripts one more at a time; and one outcome only.
 -- Assumes nothing.
 use mathlib.Core.Path.{_≡_, refl, sym, ap, ap₂, _∙_}
 use mathlib.Core.List.{List, [], _∷_, _++_, map, append-assoc, append-nil}

@@ -12,7 +12,7 @@ use Rattle.layout.specs.Layout.{decode}
 use Rattle.image.specs.Refusal.{Row, FirstOf, First}
 use Rattle.image.specs.Image.{mostEvents, recordRows, Names, Accepted}
 use Rattle.image.proofs.Refusals.{AllHold, none, fail, pass, all-hold, all-front, all-back, early-rows, under, reached}
-use Rattle.image.proofs.Named.{names-none}
+use Rattle.image.proofs.Named.{names-before, names-behind}
 use Rattle.image.proofs.Images.{record-holding}
 use Rattle.table.specs.Table.{limit, held, tableWords}
 use Rattle.readings.specs.Count.{tableRows, countRows}
@@ -81,11 +81,9 @@ number-fills k m r p = go (p .is)
 
 -- none of these numbers names a rule
 pub fills-name : {g : Grammar} (r : ℕ) → Fills r → Names g r 0
-fills-name r h =
-    names-none
-    (λ e. ⊎-elim (λ (z : r ≡ 0). omega arith) (⊎-elim (λ (z : r ≡ 12). omega arith) (λ (z : r ≡ 13). omega arith)) h)
-    (λ e. ⊎-elim (λ (z : r ≡ 0). omega arith) (⊎-elim (λ (z : r ≡ 12). omega arith) (λ (z : r ≡ 13). omega arith)) h)
-    refl
+fills-name r =
+    ⊎-elim (λ (e : r ≡ 0). names-before (omega arith) refl)
+    (⊎-elim (λ (e : r ≡ 12). names-behind (omega arith) refl) (λ (e : r ≡ 13). names-behind (omega arith) refl))
 
 pub number-ok : (k m r : ℕ) → r ≡ 0 → First (numberRows k m) r → k ≤ limit → (k < m) × (k < limit)
 number-ok k m r e p l =

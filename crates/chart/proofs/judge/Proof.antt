@@ -8,7 +8,7 @@ use Rattle.derivation.proofs.Columns.{cells-small}
 use Rattle.layout.specs.Layout.{decode}
 use Rattle.image.specs.Image.{recordRows}
 use Rattle.image.proofs.Refusals.{none, fail, pass}
-use Rattle.image.proofs.Named.{names-none}
+use Rattle.image.proofs.Named.{names-behind}
 use Rattle.image.proofs.Images.{record-accepted, refused-first, accepted-first}
 use Rattle.chart.specs.Fill.{onesTo}
 use Rattle.chart.specs.Judge.{chartRows}
@@ -40,7 +40,7 @@ returns-2 c =
     let a = c .before .before .before .before .before .before .before .before .args in
     refusal (a .image .now) (a .events .now) _ _ _ 9 0 (λ e. omega arith)
     (accepted-first _ _ _ (c .before .before .before .before .test-record .ensures) (omega arith) (c .before .before .before .if1 .left) (fail (λ h. omega arith)))
-    (names-none (λ e. omega arith) (λ e. omega arith) refl)
+    (names-behind (omega arith) refl)
     (c .refused2 .ensures) refl
 
 fill-chart-requires : tie.Need-fill-chart-requires

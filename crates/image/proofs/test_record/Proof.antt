@@ -7,7 +7,7 @@ use Rattle.image.specs.Refusal.{First}
 use Rattle.layout.specs.Layout.{decode}
 use Rattle.image.specs.Image.{imageRows, eventRows, recordRows}
 use Rattle.image.proofs.Refusals.{none, fail, pass}
-use Rattle.image.proofs.Named.{names-none}
+use Rattle.image.proofs.Named.{names-behind}
 use Rattle.image.proofs.Images.{refusal, refused-first, accepted-first}
 use Rattle.image.proofs.test_record.Statement.{statement}
 use Rattle.image.proofs.test_record.Tie as tie
@@ -36,7 +36,7 @@ returns-2 c =
     refusal (recordRows b (s .events)) (decode b) _ 8 0 (λ e. omega arith)
     (accepted-first (imageRows b) (eventRows (s .events)) _ (c .before .before .before .test-image .ensures) (omega arith) (c .before .before .if1 .left)
     (fail (λ h. omega arith)))
-    (names-none (λ e. omega arith) (λ e. omega arith) refl)
+    (names-behind (omega arith) refl)
     (c .refused .ensures)
 
 returns-3 : tie.Need-returns-3

@@ -7,7 +7,7 @@ use native.Mathlib.Omega.{arith}
 use lib.ListN.{length, take}
 use lib.Seq.{length-take-le, take-at}
 use Rattle.layout.specs.Layout.{decode}
-use Rattle.image.proofs.Named.{names-none}
+use Rattle.image.proofs.Named.{names-before}
 use Rattle.text.specs.Text.{words}
 use Rattle.text.proofs.Pairs.{length-words}
 use Rattle.listing.specs.Listing.{listing}
@@ -81,7 +81,7 @@ returns-3 c =
           number = 0;
           rule = 0;
           first = rw (c .before .before .before .before .before .before .before .before .if2 .left) at (c .before .before .before .before .before .before .before .before .before .program-refusal .ensures .number);
-          names = names-none (λ e. omega arith) (λ e. omega arith) refl;
+          names = names-before (omega arith) refl;
           refused = λ z. absurd (z refl);
           listed = λ _. c .before .before .write-readings .ensures .1 ∙ ap (listing (decode (c .before .before .before .before .before .before .before .before .before .before .before .before .before .before .args .image .now))) e;
         },

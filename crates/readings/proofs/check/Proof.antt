@@ -2,7 +2,7 @@
 -- Assumes nothing.
 use mathlib.Core.Path.{refl}
 use native.Mathlib.Omega.{arith}
-use Rattle.image.proofs.Named.{names-none}
+use Rattle.image.proofs.Named.{names-before}
 use Rattle.image.proofs.Images.{record-accepted}
 use borrow.Author.Needs.{needs}
 use Rattle.readings.proofs.check.Statement.{statement}
@@ -26,7 +26,7 @@ returns-2 : tie.Need-returns-2
 returns-2 c =
     record {
       number = rw (c .before .if1 .left) at (c .before .before .test-record .ensures .number);
-      rule = names-none (λ e. omega arith) (λ e. omega arith) refl;
+      rule = names-before (omega arith) refl;
       refused = λ z. absurd (z refl);
       answered = λ _. c .is-reading .ensures;
     }

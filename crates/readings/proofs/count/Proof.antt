@@ -2,7 +2,7 @@
 -- Assumes nothing.
 use mathlib.Core.Path.{refl}
 use native.Mathlib.Omega.{arith}
-use Rattle.image.proofs.Named.{names-none}
+use Rattle.image.proofs.Named.{names-before}
 use Rattle.table.proofs.Tables.{total-is}
 use Rattle.readings.proofs.Refuses.{count-ok}
 use borrow.Author.Needs.{needs}
@@ -43,7 +43,7 @@ returns-2 c =
     let f = c .before .before .before .before .before .fill-table .ensures in
     record {
       number = rw (c .before .before .before .before .before .before .before .if1 .left) at (c .before .before .before .before .before .before .before .before .count-refusal .ensures .number);
-      rule = names-none (λ e. omega arith) (λ e. omega arith) refl;
+      rule = names-before (omega arith) refl;
       refused = λ z. absurd (z refl);
       answered = λ _. record { total = total-is _ _ _ _ _ _ _ n refl (rw n (o .image .sound .range .some)) f (c .total-in .ensures); table = f };
     }

@@ -7,7 +7,7 @@ use mathlib.Core.Path.{refl}
 use Rattle.layout.proofs.Decoded.{leaf-count, pair-count}
 use Rattle.rules.proofs.Faults.{not-every}
 use Rattle.image.proofs.Refusals.{none, fail, pass}
-use Rattle.image.proofs.Named.{names-none, names-unfit, names-low}
+use Rattle.image.proofs.Named.{names-before, names-unfit, names-low}
 use Rattle.image.proofs.refuse.rule_refusal.Statement.{statement}
 use Rattle.image.proofs.refuse.rule_refusal.Tie as tie
 
@@ -50,7 +50,7 @@ returns-3 c = record {
   number =
       pass (c .before .before .before .first-fault .ensures .clean (omega arith))
       (pass (c .before .first-fault2 .ensures .clean (omega arith)) none);
-  rule = names-none (λ e. omega arith) (λ e. omega arith) refl;
+  rule = names-before (omega arith) refl;
 }
 
 pub rule-refusal-spec : {M : Type 1} → statement M

@@ -4,7 +4,7 @@ use mathlib.Core.Path.{refl}
 use native.Mathlib.Omega.{arith}
 use Rattle.image.specs.Image.{imageRows}
 use Rattle.image.proofs.Refusals.{none, fail, pass}
-use Rattle.image.proofs.Named.{names-none}
+use Rattle.image.proofs.Named.{names-before, names-behind}
 use Rattle.image.proofs.Images.{tested-accepted, refused-first, accepted-first}
 use Rattle.text.proofs.Pairs.{length-words}
 use Rattle.listing.specs.Listing.{fileRows}
@@ -27,13 +27,13 @@ mul-if2 c = search needs
 returns-2 : tie.Need-returns-2
 returns-2 c = record {
   number = accepted-first (imageRows (c .before .before .before .before .before .args .image .now)) (fileRows (c .before .before .before .before .before .args .image .now) (c .before .before .before .before .before .args .events .now)) _ (c .before .before .test-image .ensures) (omega arith) (c .before .if1 .left) (fail (λ h. omega (arith, h, c .if2 .taken)));
-  rule = names-none (λ e. omega arith) (λ e. omega arith) refl;
+  rule = names-behind (omega arith) refl;
 }
 
 returns-3 : tie.Need-returns-3
 returns-3 c = record {
   number = accepted-first (imageRows (c .before .before .before .before .before .before .args .image .now)) (fileRows (c .before .before .before .before .before .before .args .image .now) (c .before .before .before .before .before .before .args .events .now)) _ (c .before .before .before .test-image .ensures) (omega arith) (c .before .before .if1 .left) (pass (omega (arith, c .before .if2 .left)) (fail (λ h. c .if3 .taken h)));
-  rule = names-none (λ e. omega arith) (λ e. omega arith) refl;
+  rule = names-behind (omega arith) refl;
 }
 
 words-needed-requires : tie.Need-words-needed-requires
@@ -48,7 +48,7 @@ returns-4 c =
     record {
       number = accepted-first (imageRows (c .before .before .before .before .before .before .before .before .args .image .now)) (fileRows (c .before .before .before .before .before .before .before .before .args .image .now) (c .before .before .before .before .before .before .before .before .args .events .now)) _ (c .before .before .before .before .before .test-image .ensures) (omega arith) (c .before .before .before .before .if1 .left)
           (pass (omega (arith, c .before .before .before .if2 .left)) (pass (c .before .before .if3 .left) (fail (λ h. omega (arith, h, c .if4 .taken, rw (e, ← n) at (c .before .words-needed .ensures))))));
-      rule = names-none (λ e. omega arith) (λ e. omega arith) refl;
+      rule = names-behind (omega arith) refl;
     }
 
 returns-5 : tie.Need-returns-5
@@ -58,7 +58,7 @@ returns-5 c =
     record {
       number = accepted-first (imageRows (c .before .before .before .before .before .before .before .before .args .image .now)) (fileRows (c .before .before .before .before .before .before .before .before .args .image .now) (c .before .before .before .before .before .before .before .before .args .events .now)) _ (c .before .before .before .before .before .test-image .ensures) (omega arith) (c .before .before .before .before .if1 .left)
           (pass (omega (arith, c .before .before .before .if2 .left)) (pass (c .before .before .if3 .left) (pass (omega (arith, c .if4 .left, rw (e, ← n) at (c .before .words-needed .ensures))) none)));
-      rule = names-none (λ e. omega arith) (λ e. omega arith) refl;
+      rule = names-before (omega arith) refl;
     }
 
 pub program-refusal-spec : {M : Type 1} → statement M

@@ -4,7 +4,7 @@ use mathlib.Core.Path.{refl}
 use native.Mathlib.Omega.{arith}
 use Rattle.image.specs.Image.{recordRows}
 use Rattle.image.proofs.Refusals.{none, fail, pass}
-use Rattle.image.proofs.Named.{names-none}
+use Rattle.image.proofs.Named.{names-before, names-behind}
 use Rattle.image.proofs.Images.{record-accepted, refused-first, accepted-first}
 use Rattle.readings.specs.Count.{tableRows}
 use borrow.Author.Needs.{needs}
@@ -31,7 +31,7 @@ returns-2 c =
     record {
       number = accepted-first (recordRows (c .before .before .before .before .before .args .image .now) (c .before .before .before .before .before .args .n)) (tableRows (c .before .before .before .before .before .args .image .now) (c .before .before .before .before .before .args .n) (c .before .before .before .before .before .args .size)) _ (c .before .before .before .test-record .ensures) (omega arith) (c .before .before .if1 .left)
           (fail (λ h. omega (arith, h, c .if2 .taken, rw e at (c .before .words-needed .ensures))));
-      rule = names-none (λ e. omega arith) (λ e. omega arith) refl;
+      rule = names-behind (omega arith) refl;
     }
 
 returns-3 : tie.Need-returns-3
@@ -40,7 +40,7 @@ returns-3 c =
     record {
       number = accepted-first (recordRows (c .before .before .before .before .before .args .image .now) (c .before .before .before .before .before .args .n)) (tableRows (c .before .before .before .before .before .args .image .now) (c .before .before .before .before .before .args .n) (c .before .before .before .before .before .args .size)) _ (c .before .before .before .test-record .ensures) (omega arith) (c .before .before .if1 .left)
           (pass (omega (arith, c .if2 .left, rw e at (c .before .words-needed .ensures))) none);
-      rule = names-none (λ e. omega arith) (λ e. omega arith) refl;
+      rule = names-before (omega arith) refl;
     }
 
 pub count-refusal-spec : {M : Type 1} → statement M

@@ -3,7 +3,7 @@
 use mathlib.Core.Path.{refl}
 use native.Mathlib.Omega.{arith}
 use Rattle.image.proofs.Refusals.{none, fail, pass, first-hit, past-zero}
-use Rattle.image.proofs.Named.{names-none}
+use Rattle.image.proofs.Named.{names-before, names-behind}
 use Rattle.readings.specs.Count.{countRows}
 use Rattle.readings.specs.Reading.{roomRows}
 use Rattle.readings.proofs.Refuses.{count-ok}
@@ -27,14 +27,14 @@ returns-2 : tie.Need-returns-2
 returns-2 c = record {
   number = past-zero (countRows (c .before .before .before .before .before .args .image .now) (c .before .before .before .before .before .args .n) (c .before .before .before .before .before .args .size)) (roomRows (c .before .before .before .before .before .args .n) (c .before .before .before .before .before .args .space)) (omega arith) _ (c .before .before .if1 .left) (c .before .before .before .count-refusal .ensures .number)
       (fail (λ h. omega (arith, h, c .if2 .taken, c .before .script-words .ensures)));
-  rule = names-none (λ e. omega arith) (λ e. omega arith) refl;
+  rule = names-behind (omega arith) refl;
 }
 
 returns-3 : tie.Need-returns-3
 returns-3 c = record {
   number = past-zero (countRows (c .before .before .before .before .before .args .image .now) (c .before .before .before .before .before .args .n) (c .before .before .before .before .before .args .size)) (roomRows (c .before .before .before .before .before .args .n) (c .before .before .before .before .before .args .space)) (omega arith) _ (c .before .before .if1 .left) (c .before .before .before .count-refusal .ensures .number)
       (pass (rw (c .before .script-words .ensures) at (c .if2 .left)) none);
-  rule = names-none (λ e. omega arith) (λ e. omega arith) refl;
+  rule = names-before (omega arith) refl;
 }
 
 pub lent-refusal-spec : {M : Type 1} → statement M
