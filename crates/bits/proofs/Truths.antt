@@ -1,12 +1,13 @@
 -- Laws of answers: what one says, that there is one only, and how it carries over; of `same`; and of two numbers.
 -- Assumes nothing.
-use mathlib.Core.Path.{_≡_, refl, ap, subst}
+use mathlib.Core.Path.{_≡_, refl, sym, ap, _∙_, subst}
 use mathlib.Core.Bool.{Bool, true, false, not}
 use mathlib.Core.Logic.{_⊎_, inl, inr}
 use Prim.Native.Nat.{ℕ, zero, suc, _≤_, _<_}
-use native.Mathlib.Decide.{decLt}
+use native.Mathlib.Decide.{decLt, ℕ-discrete}
 use native.Mathlib.Omega.{arith}
-use borrow.Author.Tests.{not-true, not-false}
+use borrow.Author.Tests.{eq-eqb, ne-eqb, not-true, not-false}
+use lib.Dec.{eqb}
 use Rattle.bits.specs.Truth.{Decides, same}
 
 -- ---- answers
@@ -14,6 +15,10 @@ use Rattle.bits.specs.Truth.{Decides, same}
 pub decides-as : {P Q : Type 0} (ok : Bool) → (P → Q) → (Q → P) → Decides ok P → Decides ok Q
 decides-as true f h d = f d
 decides-as false f h d = λ q. d (h q)
+
+-- the test `r == n`, where r is x
+pub decides-eq : (r n : ℕ) {x : ℕ} → r ≡ x → Decides (eqb r n) (x ≡ n)
+decides-eq r n e = elim (ℕ-discrete r n) [ yes h ↦ rw (eq-eqb r n h) (sym e ∙ h) | no h ↦ rw (ne-eqb r n h) (λ y. h (e ∙ y)) ]
 
 -- what the answer says
 pub holds : (P : Type 0) (ok : Bool) → ok ≡ true → Decides ok P → P

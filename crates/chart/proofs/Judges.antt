@@ -1,8 +1,8 @@
 -- Laws of `JudgeIs`: a filled chart gives the answer, and only one outcome meets the record, result and every word of the chart.
 -- Assumes nothing.
 use mathlib.Core.Path.{_≡_, sym, ap, _∙_, subst⁻¹}
-use mathlib.Core.Logic.{_≢_}
-use mathlib.Core.Bool.{false}
+use mathlib.Core.Logic.{_≢_, ⊎-elim}
+use mathlib.Core.Bool.{Bool, false}
 use mathlib.Core.List.{List}
 use Prim.Native.Nat.{ℕ, _≤_, _<_}
 use native.Mathlib.Nat.{lt-of-not-le, le-refl}
@@ -11,15 +11,14 @@ use native.Mathlib.Omega.{arith}
 use lib.ListN.{length, getD}
 use lib.Seq.{ext-getD}
 use Rattle.bits.specs.Truth.{Decides}
-use Rattle.bits.specs.Bit.{bit}
-use Rattle.bits.proofs.Truths.{decides-as, decides-only}
+use Rattle.bits.proofs.Truths.{decides-as, decides-only, lt-or-ge}
 use Rattle.bits.proofs.Words.{same-bits}
 use Rattle.derivation.specs.Grammar.{Grammar, pairCount}
 use Rattle.derivation.specs.Sound.{Sound}
-use Rattle.derivation.specs.Tree.{Admitted}
+use Rattle.derivation.specs.Reading.{Admitted}
 use Rattle.derivation.specs.Numbering.{Tells}
 use Rattle.derivation.specs.Chart.{cellAt, cells, firingsBound}
-use Rattle.derivation.proofs.Exact.{some-events}
+use Rattle.derivation.proofs.Readings.{admitted-of, of-admitted, admitted-quiet, quiet-admitted}
 use Rattle.derivation.proofs.Counts.{known-of, of-known}
 use Rattle.derivation.proofs.Numbering.{known-tells, tells-only}
 use Rattle.derivation.proofs.Columns.{cell-of}
@@ -30,7 +29,7 @@ use Rattle.image.specs.Image.{Names}
 use Rattle.image.proofs.Refusals.{first-only}
 use Rattle.image.proofs.Named.{names-same, names-before}
 use Rattle.chart.specs.declared.Judged.{Judged}
-use Rattle.chart.specs.Fill.{rd, Columns, onesTo}
+use Rattle.chart.specs.Fill.{Columns, onesTo, TopHas}
 use Rattle.chart.specs.Judge.{judgeRows, Shows, Answered, JudgeIs}
 use Rattle.chart.proofs.Bridge.{chart-shows, firings-are, items-are}
 
@@ -39,22 +38,22 @@ module _ (g : Grammar) (ok : Sound g) (w c₀ c : List ℕ) (m : ℕ) (whole : C
   shows : Shows g w c
   shows = record { at = λ A i k h l. subst⁻¹ (Tells g w A i k) (chart-shows g w c₀ c m whole A i k h l) (known-tells g w A i k) }
 
-  -- the start symbol in the cell of the whole record
-  verdict : (0 < length w) × (bit (rd c 0 (length w)) 0 ≡ 1) → Admitted g w
-  verdict p = of-known g w 0 0 (length w) (sym (chart-shows g w c₀ c m whole 0 0 (length w) (p .0) (le-refl (length w))) ∙ p .1)
+  -- the start symbol in the cell of the whole record, or the flag
+  verdict : (ok : Bool) → TopHas g c (length w) ok → Decides ok (Admitted g w)
+  verdict ok t = ⊎-elim
+      (λ (s : 0 < length w).
+      let e = chart-shows g w c₀ c m whole 0 0 (length w) s (le-refl (length w)) in
+      decides-as ok (λ h. admitted-of g w s (of-known g w 0 0 (length w) (sym e ∙ h))) (λ d. e ∙ known-of g w 0 0 (length w) (of-admitted g w s d)) (t .events s))
+      (λ (s : length w ≤ 0). let z : length w ≡ 0 = omega arith in decides-as ok (admitted-quiet g w z) (quiet-admitted g w z) (t .empty z))
+      (lt-or-ge 0 (length w))
 
-  verdict-back : Admitted g w → (0 < length w) × (bit (rd c 0 (length w)) 0 ≡ 1)
-  verdict-back d =
-      let s = some-events g w 0 0 (length w) (d .0) (d .1) in
-      (s, chart-shows g w c₀ c m whole 0 0 (length w) s (le-refl (length w)) ∙ known-of g w 0 0 (length w) d)
-
-  pub answer : (r : Judged) → length c ≡ length c₀ → Decides (r .admitted) ((0 < length w) × (bit (rd c 0 (length w)) 0 ≡ 1))
+  pub answer : (r : Judged) → length c ≡ length c₀ → TopHas g c (length w) (r .admitted)
       → r .items ≡ onesTo c (cells (length w)) → r .firings ≡ m → Answered g w c₀ r c
   answer r l a i f = record {
     chart = shows;
     past = whole .past;
     long = l;
-    admitted = decides-as (r .admitted) verdict verdict-back a;
+    admitted = verdict (r .admitted) a;
     items = i ∙ items-are g w c₀ c m whole ok;
     firings = f ∙ firings-are g w c₀ c m whole;
     bound = subst⁻¹ (λ (x : ℕ). x ≤ firingsBound (length w) (g .symbols) (pairCount g)) (f ∙ firings-are g w c₀ c m whole) (firings-le g w ok);

@@ -3,9 +3,11 @@
 -- Assumes nothing.
 use mathlib.Core.Path.{_≡_}
 use mathlib.Core.Logic.{_≢_}
+use mathlib.Core.Bool.{Bool}
 use mathlib.Core.List.{List}
 use Prim.Native.Nat.{ℕ, _+_, _≤_, _<_, min}
 use lib.ListN.{length, getD}
+use Rattle.bits.specs.Truth.{Decides}
 use Rattle.bits.specs.Sum.{sum, between}
 use Rattle.bits.specs.Bit.{bit}
 use Rattle.derivation.specs.Grammar.{Grammar}
@@ -62,3 +64,8 @@ pub record Columns (g : Grammar) (w before after : List ℕ) (n m : ℕ) : Type 
 -- ---- the one bits of the first n words
 unfoldable pub onesTo : List ℕ → ℕ → ℕ
 onesTo c n = sum n (λ y. sum 64 (bit (getD c y 0)))
+
+-- ---- the verdict on n events: the start symbol in the cell of them all, and where there are none the grammar's flag
+pub record TopHas (g : Grammar) (c : List ℕ) (n : ℕ) (ok : Bool) : Type 0 where
+  pub empty : n ≡ 0 → Decides ok (g .quiet ≡ 1)
+  pub events : 0 < n → Decides ok (bit (rd c 0 n) 0 ≡ 1)

@@ -9,7 +9,7 @@ use lib.ListN.{length, getD}
 use Rattle.bits.specs.Truth.{Decides}
 use Rattle.bits.specs.Bit.{bit}
 use Rattle.derivation.specs.Grammar.{Grammar, pairCount}
-use Rattle.derivation.specs.Tree.{Admitted}
+use Rattle.derivation.specs.Reading.{Admitted}
 use Rattle.derivation.specs.Numbering.{Tells}
 use Rattle.derivation.specs.Chart.{cellAt, cells, items, firings, firingsBound}
 use Rattle.layout.specs.Layout.{decode}

@@ -5,10 +5,9 @@ ghost use mathlib.Core.Path.{_≡_};
 ghost use mathlib.Core.Bool.{false};
 ghost use Prim.Native.Nat.{_≤_, _<_, _^_};
 ghost use lib.ListN.{length};
-ghost use Rattle.bits.specs.Truth.{Decides};
-ghost use Rattle.bits.specs.Bit.{bit};
 ghost use Rattle.derivation.specs.Chart.{cells};
-ghost use Rattle.chart.specs.Fill.{rd, onesTo};
+ghost use Rattle.layout.specs.Layout.{headerBytes, decode};
+ghost use Rattle.chart.specs.Fill.{onesTo, TopHas};
 ghost use Rattle.chart.specs.Judge.{JudgeIs};
 
 // What judging answers: a refusal with zeros, or 0 with the verdict, the items and the firings. The rule is that of 6 and 7, else 0.
@@ -45,19 +44,16 @@ fn items_of(chart: &[u64], n: usize) -> u64
     total
 }
 
-// Whether the start symbol stands in the cell of the whole record.
-fn top_has(chart: &[u64], n: usize) -> bool
-    requires { ⌜ (n < 65536) × (cells n ≤ length (now chart)) ⌝ }
-    ensures { λ ok. ⌜ Decides ok ((0 < n) × (bit (rd (now (chart .entry)) 0 n) 0 ≡ 1)) ⌝ }
+// Whether the start symbol stands in the cell of the whole record; where that is empty, whether the grammar admits it.
+fn top_has(image: &[u8], chart: &[u64], n: usize) -> bool
+    requires { ⌜ (headerBytes ≤ length (now image)) × (n < 65536) × (cells n ≤ length (now chart)) ⌝ }
+    ensures { λ ok. ⌜ TopHas (decode (now (image .entry))) (now (chart .entry)) n ok ⌝ }
 {
     if n == 0 {
-        return false;
+        return layout::quiet_flag(image) == 1;
     }
     let top = fill::read_cell(chart, 0, n);
-    if bits::bit_of(top, 0) == 1 {
-        return true;
-    }
-    false
+    bits::bit_of(top, 0) == 1
 }
 
 // Judges a record: refusals 1 to 9, or the chart, the verdict, the items and the firings.
@@ -75,7 +71,7 @@ pub fn judge(image: &[u8], events: &[u16], chart: &mut [u64]) -> Judged
         return refused(9, 0);
     }
     let firings = fill::fill_chart(image, events, chart);
-    let admitted = top_has(chart, n);
+    let admitted = top_has(image, chart, n);
     let items = items_of(chart, need);
     Judged {
         number: 0,

@@ -1,10 +1,10 @@
--- Every example holds: the definitions are computed on all rows at once, and `known` is turned into the verdict.
+-- Every example holds: the definitions are computed on all rows at once, and whether there is a reading is turned into the verdict.
 -- Assumes nothing.
 use mathlib.Core.Path.{_≡_, refl, sym, ap, _∙_}
 use mathlib.Core.Logic.{⊎-elim}
 use mathlib.Core.Bool.{Bool, true, false}
 use mathlib.Core.List.{List, [], _∷_, map, head-eq-of-cons-eq, tail-eq-of-cons-eq, List·Memᴰ·not-nil, List·Memᴰ·cases-cons}
-use Prim.Native.Nat.{ℕ}
+use Prim.Native.Nat.{ℕ, min}
 use native.Mathlib.Omega.{arith}
 use lib.Dec.{ltb}
 use borrow.Author.Tests.{ltb-true}
@@ -13,12 +13,13 @@ use lib.Count.{ones, onesIn}
 use Rattle.bits.specs.Truth.{Decides, same}
 use Rattle.bits.specs.Sum.{sum, between}
 use Rattle.derivation.specs.Grammar.{Grammar}
-use Rattle.derivation.specs.Tree.{Admitted, script}
+use Rattle.derivation.specs.Tree.{script}
+use Rattle.derivation.specs.Reading.{quiet, Admitted, spelling}
 use Rattle.derivation.specs.Derivations.{join, gate, cross, leafAt, nodesAt, splitsAt, level, trees, derivations, readings, scripts, count, known}
 use Rattle.derivation.specs.Chart.{column, cellAt, cell, items, eventFirings, pairFirings, columnFirings, firings}
-use Rattle.derivation.specs.Examples.{chain, stop, Detail, reading, word, Example, example, DetailHolds, DetailsHold, RowHolds, examples}
+use Rattle.derivation.specs.Examples.{chain, quietChain, stop, Detail, reading, word, Example, example, DetailHolds, DetailsHold, RowHolds, examples}
 use Rattle.derivation.proofs.Lists.{_∈_, truth}
-use Rattle.derivation.proofs.Counts.{known-of, of-known}
+use Rattle.derivation.proofs.Numbering.{readings-numbered}
 
 -- ---- what is computed, as the definitions have it and as the row has it
 abbrev Value : Type 0
@@ -40,7 +41,7 @@ computed e =
     let g = e .grammar in
     let w = e .events in
     record {
-      verdict = known g w 0 0 (length w);
+      verdict = min 1 (length (readings g w));
       items = items g w;
       firings = firings g w;
       readings = length (scripts g w);
@@ -57,7 +58,7 @@ stated e = record {
 }
 
 computes : map computed examples ≡ map stated examples
-unfolding examples example computed stated detail said script scripts chain stop column cell readings known items firings eventFirings pairFirings columnFirings count derivations trees level join sum between same ones onesIn cross gate leafAt nodesAt splitsAt
+unfolding examples example computed stated detail said script spelling scripts chain quietChain stop column cell readings known items firings eventFirings pairFirings columnFirings count derivations trees level join sum between same ones onesIn cross gate leafAt nodesAt splitsAt
 computes = refl
 
 -- ---- from the values to what the row says
@@ -66,9 +67,9 @@ at-element f h [] e m = absurd (List·Memᴰ·not-nil m)
 at-element f h (y ∷ ys) e m =
     ⊎-elim (λ q. ap f q ∙ head-eq-of-cons-eq e ∙ ap h (sym q)) (at-element f h ys (tail-eq-of-cons-eq e)) (List·Memᴰ·cases-cons m)
 
-decided : (g : Grammar) (w : List ℕ) (b : Bool) → known g w 0 0 (length w) ≡ truth b → Decides b (Admitted g w)
-decided g w true e = of-known g w 0 0 (length w) e
-decided g w false e = λ d. let h : known g w 0 0 (length w) ≡ 1 = known-of g w 0 0 (length w) d in omega arith
+decided : (g : Grammar) (w : List ℕ) (b : Bool) → min 1 (length (readings g w)) ≡ truth b → Decides b (Admitted g w)
+decided g w true e = (getD (readings g w) 0 quiet, readings-numbered g w .gives 0 (omega arith))
+decided g w false e = λ d. let q = readings-numbered g w .numbered (d .0) (d .1) in omega (arith, q .1)
 
 detail-holds : (g : Grammar) (w : List ℕ) (d : Detail) → detail g w d ≡ said d → DetailHolds g w d
 unfolding detail said

@@ -4,6 +4,7 @@ pub mod Sound
 pub mod Exact
 pub mod Rising
 pub mod Scripts
+pub mod Readings
 pub mod Counts
 pub mod Numbering
 pub mod Places

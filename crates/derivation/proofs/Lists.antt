@@ -54,6 +54,28 @@ truth-eqb m n =
       | no e ↦ ap truth (ne-eqb m n e) ∙ sym (same-other m n e)
     ]
 
+-- ---- no element
+pub no-length : {X : Type 0} (l : List X) → length l ≡ 0 → l ≡ []
+no-length [] e = refl
+no-length (x ∷ l) e = absurd (omega arith)
+
+-- ---- one thing of each element
+module _ {ℓ} {X Y : Type ℓ} (h : X → Y) where
+  pub map-of : {y : Y} (us : List X) → y ∈ map h us → (u : X) × (u ∈ us) × (y ≡ h u)
+  map-of [] m = absurd (List·Memᴰ·not-nil m)
+  map-of (u ∷ us) m =
+      ⊎-elim (λ e. (u, List·Memᴰ·head refl, e)) (λ t. let q = map-of us t in (q .0, List·Memᴰ·tail (q .1), q .2))
+      (List·Memᴰ·cases-cons m)
+
+  pub in-map : {u : X} {us : List X} → u ∈ us → h u ∈ map h us
+  in-map (List·Memᴰ·head e) = List·Memᴰ·head (ap h e)
+  in-map (List·Memᴰ·tail m) = List·Memᴰ·tail (in-map m)
+
+  pub map-at : (us : List X) (b : ℕ) (d : X) (e : Y) → b < length us → getD (map h us) b e ≡ h (getD us b d)
+  map-at [] b d e l = absurd (not-suc-le-zero l)
+  map-at (u ∷ us) zero d e l = refl
+  map-at (u ∷ us) (suc b) d e l = map-at us b d e (le-of-suc-le-suc l)
+
 -- ---- lists
 module _ {ℓ} {X : Type ℓ} where
   -- the elements of a join are those of its parts
@@ -88,20 +110,15 @@ module _ {ℓ} {X : Type ℓ} where
   gate-yes true l t = refl
   gate-yes false l t = absurd t
 
+  pub gate-no : (b : Bool) (l : List X) → (T b → ⊥) → gate b l ≡ []
+  unfolding gate
+  gate-no true l h = absurd (h tt)
+  gate-no false l h = refl
+
   pub length-gate : (b : Bool) (l : List X) → length (gate b l) ≡ truth b * length l
   unfolding gate
   length-gate true l = omega arith
   length-gate false l = omega arith
-
-  pub map-of : {x : X} (h : X → X) (us : List X) → x ∈ map h us → (u : X) × (u ∈ us) × (x ≡ h u)
-  map-of h [] m = absurd (List·Memᴰ·not-nil m)
-  map-of h (u ∷ us) m =
-      ⊎-elim (λ e. (u, List·Memᴰ·head refl, e)) (λ t. let q = map-of h us t in (q .0, List·Memᴰ·tail (q .1), q .2))
-      (List·Memᴰ·cases-cons m)
-
-  in-map : {u : X} {us : List X} (h : X → X) → u ∈ us → h u ∈ map h us
-  in-map h (List·Memᴰ·head e) = List·Memᴰ·head (ap h e)
-  in-map h (List·Memᴰ·tail m) = List·Memᴰ·tail (in-map h m)
 
   -- elements by their places
   pub in-getD : (d : X) (l : List X) (a : ℕ) → a < length l → getD l a d ∈ l
@@ -150,11 +167,6 @@ module _ {ℓ} {X : Type ℓ} where
       ∙ join-at d n f r m q l)
       (eq-or-lt-of-le (le-of-suc-le-suc h))
 
-  map-at : (d : X) (h : X → X) (us : List X) (b : ℕ) → b < length us → getD (map h us) b d ≡ h (getD us b d)
-  map-at d h [] b l = absurd (not-suc-le-zero l)
-  map-at d h (u ∷ us) zero l = refl
-  map-at d h (u ∷ us) (suc b) l = map-at d h us b (le-of-suc-le-suc l)
-
   pub cross-at : (d : X) (h : X → X → X) (ts us : List X) (a b : ℕ) → a < length ts → b < length us
       → getD (cross h ts us) (a * length us + b) d ≡ h (getD ts a d) (getD us b d)
   unfolding cross
@@ -162,7 +174,7 @@ module _ {ℓ} {X : Type ℓ} where
   cross-at d h (t ∷ ts) us zero b k l =
       let e : 0 * length us + b ≡ b = omega arith in
       let q : b < length (map (h t) us) = omega (arith, length-map us (h t)) in
-      rw e (List·getD-append (map (h t) us) (cross h ts us) d b q ∙ map-at d (h t) us b l)
+      rw e (List·getD-append (map (h t) us) (cross h ts us) d b q ∙ map-at (h t) us b d d l)
   cross-at d h (t ∷ ts) us (suc a) b k l =
       let e : suc a * length us + b ≡ length (map (h t) us) + (a * length us + b) = omega (arith, length-map us (h t)) in
       rw e (getD-append-add (map (h t) us) (cross h ts us) (a * length us + b) d ∙ cross-at d h ts us a b (le-of-suc-le-suc k) l)

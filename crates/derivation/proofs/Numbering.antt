@@ -1,7 +1,7 @@
--- `derivations` numbers the derivations of [A, i, k], and no other list does; `known` tells whether there are any, and no other
--- number does.
+-- `derivations` numbers the derivations of [A, i, k] and `readings` the readings, and no other list does; `known` tells whether there is
+-- a derivation, and no other number does.
 -- Assumes nothing.
-use mathlib.Core.Path.{_≡_, sym, subst, _∙_}
+use mathlib.Core.Path.{_≡_, refl, sym, subst, _∙_}
 use mathlib.Core.List.{List, [], _∷_}
 use Prim.Native.Nat.{ℕ, suc, _<_}
 use native.Mathlib.Nat.{zero-lt-suc}
@@ -9,68 +9,76 @@ use native.Mathlib.Omega.{arith}
 use native.Mathlib.Decide.{decLt, ℕ-discrete}
 use lib.ListN.{length, getD}
 use Rattle.derivation.specs.Grammar.{Grammar}
-use Rattle.derivation.specs.Tree.{Tree, Derives, Derivable}
-use Rattle.derivation.specs.Numbering.{none, Numbers, NumbersReadings, Tells}
+use Rattle.derivation.specs.Order.{Before}
+use Rattle.derivation.specs.Tree.{Derives, Derivable, script}
+use Rattle.derivation.specs.Reading.{quiet, Reads, spelling}
+use Rattle.derivation.specs.Numbering.{none, Numbers, NumbersReadings, NumbersDerivations, Tells}
 use Rattle.derivation.specs.Derivations.{derivations, readings, known}
 use Rattle.derivation.proofs.Lists.{_∈_, in-getD, place-of}
-use Rattle.derivation.proofs.Orders.{not-before-self, Rising, rising-at}
+use Rattle.derivation.proofs.Orders.{not-before-self, before-asym, Rising, rising-at, rising-unique}
 use Rattle.derivation.proofs.Exact.{derivations-sound, derivations-complete}
-use Rattle.derivation.proofs.Rising.{Earlier, derivations-rising, unique}
+use Rattle.derivation.proofs.Rising.{derivations-rising}
+use Rattle.derivation.proofs.Readings.{readings-sound, readings-complete, readings-rising}
 use Rattle.derivation.proofs.Counts.{known-lt, known-of, of-known}
 
--- ---- a list that rises at its places
-abbrev RisesAt : List Tree → Type 0
-RisesAt l = (p q : ℕ) → p < q → q < length l → Earlier (getD l p none) (getD l q none)
+-- ---- a list of just what Is holds of that rises by the scripts numbers it, and there is one only
+module _ {X : Type 0} (Is : X → Type 0) (scriptOf : X → List ℕ) (past : X) where
+  abbrev Earlier : X → X → Type 0
+  Earlier x y = Before (scriptOf x) (scriptOf y)
 
-rising-of : (l : List Tree) → RisesAt l → Rising Earlier l
-rising-of [] h = tt
-rising-of (x ∷ xs) h = (
-  λ y m.
-      let q = place-of none xs m in
-      subst (Earlier x) (q .2) (h 0 (suc (q .0)) (zero-lt-suc (q .0)) (omega (arith, q .1))),
-  rising-of xs (λ a b p q. h (suc a) (suc b) (omega arith) (omega arith)),
-)
+  abbrev RisesAt : List X → Type 0
+  RisesAt l = (p q : ℕ) → p < q → q < length l → Earlier (getD l p past) (getD l q past)
 
--- has nothing twice
-no-repeat : (l : List Tree) → RisesAt l → (p q : ℕ) → p < length l → q < length l → getD l p none ≡ getD l q none → p ≡ q
-no-repeat l rise p q h k e =
-    elim (decLt p q) [
-      | yes a ↦ absurd (not-before-self (subst (λ (t : Tree). Earlier t (getD l q none)) e (rise p q a k)))
-      | no a ↦
-          elim (decLt q p) [
-            | yes b ↦ absurd (not-before-self (subst (λ (t : Tree). Earlier t (getD l p none)) (sym e) (rise q p b h)))
-            | no b ↦ omega arith
-          ]
-    ]
+  rising-of : (l : List X) → RisesAt l → Rising Earlier l
+  rising-of [] h = tt
+  rising-of (x ∷ xs) h = (
+    λ y m.
+        let q = place-of past xs m in
+        subst (Earlier x) (q .2) (h 0 (suc (q .0)) (zero-lt-suc (q .0)) (omega (arith, q .1))),
+    rising-of xs (λ a b p q. h (suc a) (suc b) (omega arith) (omega arith)),
+  )
 
-module _ (g : Grammar) (w : List ℕ) where
-  -- ---- the list of derivations
-  pub derivations-numbered : (A i k : ℕ) → Numbers g w A i k (derivations g w A i k)
-  derivations-numbered A i k =
-      let l = derivations g w A i k in
-      let rise : RisesAt l = rising-at Earlier none l (derivations-rising g w A i k) in
+  no-repeat : (l : List X) → RisesAt l → (p q : ℕ) → p < length l → q < length l → getD l p past ≡ getD l q past → p ≡ q
+  no-repeat l rise p q h k e =
+      elim (decLt p q) [
+        | yes a ↦ absurd (not-before-self (subst (λ (t : X). Earlier t (getD l q past)) e (rise p q a k)))
+        | no a ↦
+            elim (decLt q p) [
+              | yes b ↦ absurd (not-before-self (subst (λ (t : X). Earlier t (getD l p past)) (sym e) (rise q p b h)))
+              | no b ↦ omega arith
+            ]
+      ]
+
+  numbers-of : (l : List X) → ((x : X) → x ∈ l → Is x) → ((x : X) → Is x → x ∈ l) → Rising Earlier l → Numbers Is scriptOf past l
+  numbers-of l sound complete r =
+      let rise : RisesAt l = rising-at Earlier past l r in
       record {
-        gives = λ q h. derivations-sound g w A i k (in-getD none l q h);
-        numbered = λ t d. place-of none l (derivations-complete g w A i k t d);
+        gives = λ q h. sound (getD l q past) (in-getD past l q h);
+        numbered = λ x d. place-of past l (complete x d);
         once = no-repeat l rise;
         earlier = rise;
       }
 
-  -- there is no other
-  pub numbers-only : (A i k : ℕ) (l : List Tree) → Numbers g w A i k l → l ≡ derivations g w A i k
-  numbers-only A i k l n =
-      unique g w A i k l (rising-of l (n .earlier))
-      (λ t m. let q = place-of none l m in subst (Derives g w A i k) (q .2) (n .gives (q .0) (q .1)))
-      (λ t d. let q = n .numbered t d in subst (λ (x : Tree). x ∈ l) (q .2) (in-getD none l (q .0) (q .1)))
+  within : (l m : List X) → Numbers Is scriptOf past l → Numbers Is scriptOf past m → (x : X) → x ∈ l → x ∈ m
+  within l m p q x h =
+      let a = place-of past l h in
+      let b = q .numbered x (subst Is (a .2) (p .gives (a .0) (a .1))) in
+      subst (λ (y : X). y ∈ m) (b .2) (in-getD past m (b .0) (b .1))
 
-  -- demand 3: of the whole record
+  pub numbers-only : (l m : List X) → Numbers Is scriptOf past l → Numbers Is scriptOf past m → l ≡ m
+  numbers-only l m p q =
+      rising-unique Earlier (λ x y. before-asym) l m (rising-of l (p .earlier)) (rising-of m (q .earlier)) (within l m p q) (within m l q p)
+
+module _ (g : Grammar) (w : List ℕ) where
+  -- ---- demand 3: the readings, the quiet one among them
   pub readings-numbered : NumbersReadings g w (readings g w)
-  unfolding readings
-  readings-numbered = derivations-numbered 0 0 (length w)
+  readings-numbered = numbers-of (Reads g w) spelling quiet (readings g w) (readings-sound g w) (readings-complete g w) (readings-rising g w)
 
-  pub readings-only : (l : List Tree) → NumbersReadings g w l → l ≡ readings g w
-  unfolding readings
-  readings-only = numbers-only 0 0 (length w)
+  -- ---- the derivations of [A, i, k]
+  pub derivations-numbered : (A i k : ℕ) → NumbersDerivations g w A i k (derivations g w A i k)
+  derivations-numbered A i k =
+      numbers-of (Derives g w A i k) script none (derivations g w A i k) (λ t m. derivations-sound g w A i k m) (derivations-complete g w A i k)
+      (derivations-rising g w A i k)
 
   -- ---- whether there is one
   pub known-tells : (A i k : ℕ) → Tells g w A i k (known g w A i k)

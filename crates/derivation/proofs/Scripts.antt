@@ -1,14 +1,12 @@
 -- Scripts: how long one is, and that it is the script of one derivation only.
 -- Assumes nothing.
-use mathlib.Core.Path.{_≡_, sym, ap, _∙_}
+use mathlib.Core.Path.{_≡_, sym, _∙_}
 use mathlib.Core.List.{List, [], _++_, append-assoc, append-nil, head-eq-of-cons-eq, tail-eq-of-cons-eq}
-use Prim.Native.Nat.{ℕ, _+_, _-_, _*_, _<_}
-use native.Mathlib.Nat.{sub-zero}
+use Prim.Native.Nat.{ℕ, _+_, _-_, _*_}
 use native.Mathlib.Omega.{arith}
 use lib.ListN.{length, length-append}
 use Rattle.derivation.specs.Grammar.{Grammar, leafCount, pairRule}
-use Rattle.derivation.specs.Tree.{Tree, leaf, node, Derives, script, scriptWords, IsReading}
-use Rattle.derivation.proofs.Exact.{some-events}
+use Rattle.derivation.specs.Tree.{Tree, leaf, node, Derives, script, scriptWords}
 
 module _ (g : Grammar) (w : List ℕ) where
   -- how long a script is
@@ -50,10 +48,3 @@ module _ (g : Grammar) (w : List ℕ) where
   pub script-inj : (A i k B x y : ℕ) (t u : Tree) → Derives g w A i k t → Derives g w B x y u → script t ≡ script u → t ≡ u
   script-inj A i k B x y t u d e h =
       script-cut A i k B x y t u [] [] d e (append-nil (script t) ∙ h ∙ sym (append-nil (script u))) .0
-
--- a reading's script has 2 (2 n - 1) words, and an empty record has none
-pub reading-length : (g : Grammar) (w s : List ℕ) → IsReading g w s → length s ≡ scriptWords (length w)
-reading-length g w s p = sym (ap length (p .spelt)) ∙ script-length g w 0 0 (length w) (p .tree) (p .derives) ∙ rw sub-zero
-
-pub reading-some : (g : Grammar) (w s : List ℕ) → IsReading g w s → 0 < length w
-reading-some g w s p = some-events g w 0 0 (length w) (p .tree) (p .derives)

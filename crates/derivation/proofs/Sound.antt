@@ -1,10 +1,10 @@
 -- What each rule's number gives, and what a sound grammar gives to the services: symbols in range, rules that rise, none twice.
 -- Assumes nothing.
-use Prim.Native.Nat.{ℕ, zero, suc, _-_, _≤_, _<_, max}
-use native.Mathlib.Nat.{not-suc-le-zero, le-of-suc-le-suc, lt-of-le-of-lt, le-of-eq}
+use Prim.Native.Nat.{ℕ, _-_, _≤_, _<_, max}
+use native.Mathlib.Nat.{lt-of-le-of-lt, le-of-eq}
 use native.Mathlib.Decide.{decLt}
 use native.Mathlib.Omega.{arith}
-use mathlib.Core.Path.{_≡_, refl, sym, ap, _∙_, subst}
+use mathlib.Core.Path.{_≡_, sym, ap, _∙_, subst}
 use mathlib.Core.List.{List, [], _∷_, map}
 use lib.ListN.{length, getD, length-map, List·getD-append}
 use lib.Seq.{getD-append-add}
@@ -12,26 +12,21 @@ use Rattle.derivation.specs.Order.{Before}
 use Rattle.derivation.specs.Grammar.{EventRule, PairRule, Grammar, leafCount, ruleCount, eventRule, pairRule, byRule, ruleSymbol}
 use Rattle.derivation.specs.Sound.{highest, asNumbers, Sound}
 use Rattle.derivation.specs.Tree.{Tree, leaf, node, Derives}
+use Rattle.derivation.proofs.Lists.{map-at}
 use Rattle.derivation.proofs.Orders.{rises-far, not-before-self}
 
 -- ---- one thing of each rule, by the rule's number
--- an element of a mapped list, within it
-getD-map-in : {X Y : Type 0} (f : X → Y) (l : List X) (i : ℕ) (d : X) (e : Y) → i < length l → getD (map f l) i e ≡ f (getD l i d)
-getD-map-in f [] i d e h = absurd (not-suc-le-zero h)
-getD-map-in f (x ∷ l) zero d e h = refl
-getD-map-in f (x ∷ l) (suc i) d e h = getD-map-in f l i d e (le-of-suc-le-suc h)
-
 module _ {X : Type 0} (f : EventRule → X) (h : PairRule → X) (g : Grammar) (e : X) (r : ℕ) where
   pub by-leaf : r < leafCount g → getD (byRule f h g) r e ≡ f (eventRule g r)
   by-leaf l =
       List·getD-append (map f (g .leaves)) (map h (g .pairs)) e r (rw length-map l)
-      ∙ getD-map-in f (g .leaves) r _ e l
+      ∙ map-at f (g .leaves) r _ e l
 
   pub by-pair : leafCount g ≤ r → r < ruleCount g → getD (byRule f h g) r e ≡ h (pairRule g (r - leafCount g))
   by-pair l m =
       ap (λ (k : ℕ). getD (byRule f h g) k e) (omega (arith, length-map (g .leaves) f))
       ∙ getD-append-add (map f (g .leaves)) (map h (g .pairs)) (r - leafCount g) e
-      ∙ getD-map-in h (g .pairs) (r - leafCount g) _ e (omega arith)
+      ∙ map-at h (g .pairs) (r - leafCount g) _ e (omega arith)
 
 -- what is asked of rule r, in terms of its symbol and of what follows
 module _ (g : Grammar) (r : ℕ) where

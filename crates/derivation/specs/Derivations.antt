@@ -1,6 +1,7 @@
--- Every derivation of [A, i, k], the earliest script first, and how many there are.
--- How the list is made need not be believed: it is the only list with `Numbers g w A i k` (`derivations-numbered`, `numbers-only`), and `known` the
--- only number with `Tells g w A i k` (`known-tells`, `tells-only`).
+-- Every derivation of [A, i, k] and every reading, the earliest script first, and how many there are.
+-- How the lists are made need not be believed: they are the only ones with `NumbersDerivations g w A i k` and `NumbersReadings g w`
+-- (`derivations-numbered`, `readings-numbered`, `numbers-only`), and `known` is the only number with `Tells g w A i k` (`known-tells`,
+-- `tells-only`).
 -- Assumes nothing.
 use mathlib.Core.Bool.{Bool, true, false, _&&_}
 use mathlib.Core.List.{List, [], _∷_, _++_, map}
@@ -8,7 +9,8 @@ use Prim.Native.Nat.{ℕ, zero, suc, _+_, _-_, min}
 use lib.Dec.{eqb, ltb}
 use lib.ListN.{length, getD}
 use Rattle.derivation.specs.Grammar.{Grammar, leafCount, pairCount, eventRule, pairRule}
-use Rattle.derivation.specs.Tree.{Tree, leaf, node, script}
+use Rattle.derivation.specs.Tree.{Tree, leaf, node}
+use Rattle.derivation.specs.Reading.{Reading, quiet, derived, spelling}
 
 -- ---- lists
 
@@ -65,11 +67,11 @@ unfoldable pub derivations : Grammar → List ℕ → ℕ → ℕ → ℕ → Li
 derivations g w A i k = trees g w (k - i) A i k
 
 -- the readings, reading 0 first, and their scripts
-unfoldable pub readings : Grammar → List ℕ → List Tree
-readings g w = derivations g w 0 0 (length w)
+unfoldable pub readings : Grammar → List ℕ → List Reading
+readings g w = gate (eqb (g .quiet) 1 && eqb (length w) 0) (quiet ∷ []) ++ map derived (derivations g w 0 0 (length w))
 
 unfoldable pub scripts : Grammar → List ℕ → List (List ℕ)
-scripts g w = map script (readings g w)
+scripts g w = map spelling (readings g w)
 
 -- ---- how many
 

@@ -1,4 +1,4 @@
--- CHAIN and STOP, and the rows of 01's table of examples that are marked P: what each says of the definitions.
+-- CHAIN and STOP, and the rows of 01's table of examples that are marked P: what each says of the definitions; and two rows of a quiet shift.
 -- Assumes nothing.
 use mathlib.Core.Path.{_≡_}
 use mathlib.Core.Bool.{Bool, true, false}
@@ -7,17 +7,22 @@ use Prim.Native.Nat.{ℕ, _<_}
 use lib.ListN.{length, getD}
 use Rattle.bits.specs.Truth.{Decides}
 use Rattle.derivation.specs.Grammar.{Grammar}
-use Rattle.derivation.specs.Tree.{Admitted}
+use Rattle.derivation.specs.Reading.{Admitted}
 use Rattle.derivation.specs.Derivations.{scripts}
 use Rattle.derivation.specs.Chart.{cellAt, cell, items, firings}
 
--- ---- the two grammars
+-- ---- the grammars
 unfoldable pub chain : Grammar
 chain = record {
   symbols = 1;
   leaves = record { symbol = 0; event = 7 } ∷ [];
   pairs = record { symbol = 0; left = 0; right = 0 } ∷ [];
+  quiet = 0;
 }
+
+-- CHAIN where a quiet shift is proper
+unfoldable pub quietChain : Grammar
+quietChain = record { symbols = chain .symbols; leaves = chain .leaves; pairs = chain .pairs; quiet = 1 }
 
 -- symbols 0 day, 1 stop, 2 press, 3 tail, 4 relay, 5 reset
 unfoldable pub stop : Grammar
@@ -30,6 +35,7 @@ stop = record {
       ∷ record { symbol = 1; left = 2; right = 3 }
       ∷ record { symbol = 3; left = 4; right = 5 }
       ∷ [];
+  quiet = 0;
 }
 
 -- ---- what a row says
@@ -66,7 +72,7 @@ pub record RowHolds (e : Example) : Type 0 where
   pub details : DetailsHold (e .grammar) (e .events) (e .details)
 
 -- ---- the rows marked P: verdict, items, firings, readings, details. Where 01 names no verdict or number of readings it follows from
--- the other of the two.
+-- the other of the two. The last two are for request (vii).
 unfoldable pub examples : List Example
 examples =
     example chain [] false 0 0 0 []
@@ -79,4 +85,6 @@ examples =
     (word 0 3 3 3 ∷ reading 0 (4 ∷ 1 ∷ 0 ∷ 1 ∷ 6 ∷ 2 ∷ 1 ∷ 2 ∷ 2 ∷ 3 ∷ []) ∷ [])
     ∷ example stop (1 ∷ 2 ∷ []) false 2 2 0 []
     ∷ example stop (1 ∷ 2 ∷ 3 ∷ 1 ∷ 2 ∷ 3 ∷ []) true 13 13 1 []
+    ∷ example quietChain [] true 0 0 1 (reading 0 [] ∷ [])
+    ∷ example quietChain (7 ∷ []) true 1 1 1 (reading 0 (0 ∷ 1 ∷ []) ∷ [])
     ∷ []

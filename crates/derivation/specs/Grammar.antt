@@ -1,4 +1,4 @@
--- A grammar: its symbols 0 to N - 1, of which 0 is the start, its event rules and its pair rules, by number.
+-- A grammar: its symbols 0 to N - 1, of which 0 is the start, its event rules and its pair rules, by number, and its flag.
 -- Assumes nothing.
 use Prim.Native.Nat.{ℕ, _+_}
 use mathlib.Core.List.{List, _++_, map}
@@ -19,6 +19,8 @@ pub record Grammar : Type 0 where
   pub symbols : ℕ
   pub leaves : List EventRule
   pub pairs : List PairRule
+  -- 1 admits the empty record, a quiet shift
+  pub quiet : ℕ
 
 -- how many event rules, pair rules and rules there are
 abbrev pub leafCount : Grammar → ℕ

@@ -2,6 +2,7 @@ pub mod Order
 pub mod Grammar
 pub mod Sound
 pub mod Tree
+pub mod Reading
 pub mod Numbering
 pub mod Derivations
 pub mod Chart

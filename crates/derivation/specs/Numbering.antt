@@ -1,5 +1,5 @@
--- What every list of derivations must be, and every answer to "is it derivable": said of demand 2's trees alone, with no list and no
--- chart made. `Derivations` has such a list, and `proofs/Numbering` shows that there is one only.
+-- What every list of readings or of derivations must be, and every answer to "is it derivable": said of demand 2's trees alone, with no
+-- list and no chart made. `Derivations` has such lists, and `proofs/Numbering` shows that there is one only of each.
 -- Assumes nothing.
 use mathlib.Core.Path.{_≡_}
 use mathlib.Core.List.{List}
@@ -8,25 +8,29 @@ use lib.ListN.{length, getD}
 use Rattle.derivation.specs.Grammar.{Grammar}
 use Rattle.derivation.specs.Order.{Before}
 use Rattle.derivation.specs.Tree.{Tree, leaf, Derives, Derivable, script}
+use Rattle.derivation.specs.Reading.{Reading, quiet, Reads, spelling}
 
--- what stands past the end of a list of trees
+-- l numbers what Is holds of, in the order of its scripts: number q is what stands at place q. Past the end stands `past`
+pub record Numbers {X : Type 0} (Is : X → Type 0) (scriptOf : X → List ℕ) (past : X) (l : List X) : Type 0 where
+  -- each number below their count gives one
+  pub gives : (q : ℕ) → q < length l → Is (getD l q past)
+  -- each has a number
+  pub numbered : (x : X) → Is x → (q : ℕ) × (q < length l) × (getD l q past ≡ x)
+  -- and no more than one
+  pub once : (p q : ℕ) → p < length l → q < length l → getD l p past ≡ getD l q past → p ≡ q
+  -- a smaller number means an earlier script
+  pub earlier : (p q : ℕ) → p < q → q < length l → Before (scriptOf (getD l p past)) (scriptOf (getD l q past))
+
+-- l numbers the readings of w: demand 3
+abbrev pub NumbersReadings : Grammar → List ℕ → List Reading → Type 0
+NumbersReadings g w l = Numbers (Reads g w) spelling quiet l
+
+-- l numbers the derivations of [A, i, k]
 abbrev pub none : Tree
 none = leaf 0 0
 
--- l numbers the derivations of [A, i, k]: number q is the tree at place q
-pub record Numbers (g : Grammar) (w : List ℕ) (A i k : ℕ) (l : List Tree) : Type 0 where
-  -- each number below their count gives a derivation
-  pub gives : (q : ℕ) → q < length l → Derives g w A i k (getD l q none)
-  -- each derivation has a number
-  pub numbered : (t : Tree) → Derives g w A i k t → (q : ℕ) × (q < length l) × (getD l q none ≡ t)
-  -- and no more than one
-  pub once : (p q : ℕ) → p < length l → q < length l → getD l p none ≡ getD l q none → p ≡ q
-  -- a smaller number means an earlier script
-  pub earlier : (p q : ℕ) → p < q → q < length l → Before (script (getD l p none)) (script (getD l q none))
-
--- l numbers the readings of w: demand 3
-abbrev pub NumbersReadings : Grammar → List ℕ → List Tree → Type 0
-NumbersReadings g w l = Numbers g w 0 0 (length w) l
+abbrev pub NumbersDerivations : Grammar → List ℕ → (A i k : ℕ) → List Tree → Type 0
+NumbersDerivations g w A i k l = Numbers (Derives g w A i k) script none l
 
 -- x is 1 exactly when [A, i, k] is derivable, and else 0
 pub record Tells (g : Grammar) (w : List ℕ) (A i k x : ℕ) : Type 0 where

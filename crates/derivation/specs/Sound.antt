@@ -1,4 +1,4 @@
--- What is asked of a grammar: its counts in range, every symbol of its rules below N, and each rule above its predecessor of the same
+-- What is asked of a grammar: its counts and its flag in range, every symbol of its rules below N, and each rule above its predecessor of the same
 -- kind. A grammar of which all this holds is sound.
 -- Assumes nothing.
 use Prim.Native.Nat.{ℕ, _-_, _≤_, _<_, max}
@@ -9,7 +9,7 @@ use Rattle.bits.specs.Truth.{Every}
 use Rattle.derivation.specs.Grammar.{Grammar, leafCount, pairCount, ruleCount, byRule}
 use Rattle.derivation.specs.Order.{Before}
 
--- ---- counts
+-- ---- counts and flag
 abbrev pub mostSymbols : ℕ
 mostSymbols = 64
 
@@ -19,12 +19,13 @@ mostLeaves = 512
 abbrev pub mostPairs : ℕ
 mostPairs = 256
 
--- N is 1 to 64, L is 0 to 512, B is 0 to 256
-pub record InRange (N L B : ℕ) : Type 0 where
+-- N is 1 to 64, L is 0 to 512, B is 0 to 256, the flag is 0 or 1
+pub record InRange (N L B flag : ℕ) : Type 0 where
   pub some : 1 ≤ N
   pub symbols : N ≤ mostSymbols
   pub leaves : L ≤ mostLeaves
   pub pairs : B ≤ mostPairs
+  pub quiet : flag ≤ 1
 
 -- ---- one rule, by its number
 -- the highest symbol of rule r: an event rule has one symbol, a pair rule three
@@ -45,6 +46,6 @@ Rises g r = 0 < r → r ≢ leafCount g → Before (asNumbers g (r - 1)) (asNumb
 
 -- ---- all of it
 pub record Sound (g : Grammar) : Type 0 where
-  pub range : InRange (g .symbols) (leafCount g) (pairCount g)
+  pub range : InRange (g .symbols) (leafCount g) (pairCount g) (g .quiet)
   pub fit : Every (ruleCount g) (SymbolsFit g)
   pub rising : Every (ruleCount g) (Rises g)

@@ -1,4 +1,4 @@
--- What a grammar derives: trees of rule uses, which of them are derivations, and their scripts.
+-- What a grammar derives by its rules: trees of rule uses, which of them are derivations, and their scripts.
 -- A record of events is a list w; the stretch (i, k) of it is events i + 1 to k.
 -- Assumes nothing.
 use mathlib.Core.Path.{_≡_}
@@ -41,10 +41,6 @@ Derives g w A i k (node r j t u) =
 abbrev pub Derivable : Grammar → List ℕ → ℕ → ℕ → ℕ → Type 0
 Derivable g w A i k = (t : Tree) × Derives g w A i k t
 
--- the record is admitted
-abbrev pub Admitted : Grammar → List ℕ → Type 0
-Admitted g w = Derivable g w 0 0 (length w)
-
 -- two words for each node, from the root; a node before its left part, and the left part before the right
 unfoldable pub script : Tree → List ℕ
 script (leaf r p) = r ∷ p ∷ []
@@ -59,7 +55,3 @@ pub record Spells (g : Grammar) (w : List ℕ) (A i k : ℕ) (s : List ℕ) : Ty
   pub tree : Tree
   pub derives : Derives g w A i k tree
   pub spelt : script tree ≡ s
-
--- s is the script of a reading of w
-abbrev pub IsReading : Grammar → List ℕ → List ℕ → Type 0
-IsReading g w s = Spells g w 0 0 (length w) s

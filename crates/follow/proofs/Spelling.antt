@@ -10,6 +10,7 @@ use lib.ListN.{length, getD, take, drop, length-drop, take-append-drop}
 use lib.Seq.{length-take-le, take-at, drop-at, take-all, drop-drop}
 use Rattle.derivation.specs.Grammar.{Grammar, leafCount, pairRule}
 use Rattle.derivation.specs.Tree.{Tree, leaf, node, script, scriptWords, Spells, LeafOk, NodeOk, Derives}
+use Rattle.derivation.proofs.Lists.{no-length}
 use Rattle.derivation.proofs.Exact.{some-events}
 use Rattle.derivation.proofs.Scripts.{script-length}
 use Rattle.bits.specs.Truth.{Decides}
@@ -19,10 +20,6 @@ two : (s : List ℕ) → 2 ≤ length s → s ≡ getD s 0 0 ∷ getD s 1 0 ∷ 
 two [] h = absurd (omega arith)
 two (a ∷ []) h = absurd (omega arith)
 two (a ∷ b ∷ s) h = refl
-
-none : (s : List ℕ) → length s ≡ 0 → s ≡ []
-none [] h = refl
-none (a ∷ s) h = absurd (omega arith)
 
 -- the words of the left part and of the right part, where the right one starts at m
 abbrev pub left-words : ℕ → List ℕ → List ℕ
@@ -37,7 +34,7 @@ module _ (g : Grammar) (w : List ℕ) (A i k : ℕ) (s : List ℕ) where
   spells-leaf l e h = record {
     tree = leaf (getD s 0 0) (getD s 1 0);
     derives = h;
-    spelt = sym (two s (omega arith) ∙ ap (λ (x : List ℕ). getD s 0 0 ∷ getD s 1 0 ∷ x) (none (drop 2 s) (length-drop 2 s ∙ omega arith)));
+    spelt = sym (two s (omega arith) ∙ ap (λ (x : List ℕ). getD s 0 0 ∷ getD s 1 0 ∷ x) (no-length (drop 2 s) (length-drop 2 s ∙ omega arith)));
   }
 
   leaf-of : (t : Tree) → Derives g w A i k t → script t ≡ s → k ≡ i + 1 → LeafOk g w A i k (getD s 0 0) (getD s 1 0)

@@ -3,7 +3,8 @@ ghost use mathlib.Core.Path.{_≡_};
 ghost use Prim.Native.Nat.{_+_, _-_, _≤_, _<_};
 ghost use lib.ListN.{length};
 ghost use Rattle.bits.specs.Truth.{Decides};
-ghost use Rattle.derivation.specs.Tree.{LeafOk, NodeOk, scriptWords, Spells, IsReading};
+ghost use Rattle.derivation.specs.Tree.{LeafOk, NodeOk, scriptWords, Spells};
+ghost use Rattle.derivation.specs.Reading.{IsReading};
 ghost use Rattle.layout.specs.Layout.{decode};
 ghost use Rattle.image.specs.Image.{Accepted};
 
@@ -78,12 +79,12 @@ pub fn is_reading(image: &[u8], events: &[u16], script: &[u16]) -> bool
     ensures { λ ok. ⌜ Decides ok (IsReading (decode (now (image .entry))) (now (events .entry)) (now (script .entry))) ⌝ }
 {
     let n = events.len();
-    if n == 0 {
-        return false;
-    }
     let words = derivation::script_words(n);
     if script.len() != words {
         return false;
+    }
+    if n == 0 {
+        return layout::quiet_flag(image) == 1;
     }
     follows(image, events, 0, 0, n, script)
 }

@@ -13,7 +13,7 @@ use Rattle.derivation.specs.Grammar.{Grammar, leafCount, ruleCount}
 use Rattle.derivation.specs.Sound.{mostSymbols, mostLeaves, mostPairs, InRange, highest, asNumbers, SymbolsFit, Rises}
 use Rattle.derivation.proofs.Orders.{none-before}
 use Rattle.image.specs.Refusal.{Row, _unless_, First}
-use Rattle.layout.specs.Layout.{headerBytes, byteAt, versionIn, symbolsIn, leavesIn, pairsIn, rulesFrom, decode}
+use Rattle.layout.specs.Layout.{headerBytes, byteAt, versionIn, symbolsIn, leavesIn, pairsIn, quietIn, rulesFrom, decode}
 use Rattle.image.specs.Image.{mostEvents, Marked, byteRows, ruleRows, imageRows, eventRows, recordRows}
 use Rattle.image.proofs.Refusals.{none, fail, pass}
 
@@ -88,11 +88,11 @@ marked? b =
     dec-as (λ p. record { E = p .0; S = p .1 .0; G = p .1 .1 }) (λ m. (m .E, (m .S, m .G)))
     (Dec·and (ℕ-discrete (byteAt b 0) 0x45) (Dec·and (ℕ-discrete (byteAt b 1) 0x53) (ℕ-discrete (byteAt b 2) 0x47)))
 
-unfoldable pub range? : (N L B : ℕ) → Dec (InRange N L B)
-range? N L B =
-    dec-as (λ p. record { some = p .0 .0; symbols = p .0 .1; leaves = p .1 .0; pairs = p .1 .1 })
-    (λ r. ((r .some, r .symbols), (r .leaves, r .pairs)))
-    (Dec·and (Dec·and (decLe 1 N) (decLe N mostSymbols)) (Dec·and (decLe L mostLeaves) (decLe B mostPairs)))
+unfoldable pub range? : (N L B flag : ℕ) → Dec (InRange N L B flag)
+range? N L B flag =
+    dec-as (λ p. record { some = p .0 .0; symbols = p .0 .1; leaves = p .1 .0; pairs = p .1 .1 .0; quiet = p .1 .1 .1 })
+    (λ r. ((r .some, r .symbols), (r .leaves, (r .pairs, r .quiet))))
+    (Dec·and (Dec·and (decLe 1 N) (decLe N mostSymbols)) (Dec·and (decLe L mostLeaves) (Dec·and (decLe B mostPairs) (decLe flag 1))))
 
 unfoldable pub fit? : (g : Grammar) (r : ℕ) → Dec (SymbolsFit g r)
 fit? g r = decLt (highest g r) (g .symbols)
@@ -109,8 +109,8 @@ bytes-decided b = (
   (
     marked? b,
     (
-      ℕ-discrete (versionIn b) 1,
-      (range? (symbolsIn b) (leavesIn b) (pairsIn b), (ℕ-discrete (length b) (rulesFrom b + 3 * (leavesIn b + pairsIn b)), tt)),
+      dec-either (ℕ-discrete (versionIn b) 1) (ℕ-discrete (versionIn b) 2),
+      (range? (symbolsIn b) (leavesIn b) (pairsIn b) (quietIn b), (ℕ-discrete (length b) (rulesFrom b + 3 * (leavesIn b + pairsIn b)), tt)),
     ),
   ),
 )

@@ -6,11 +6,12 @@ use mathlib.Core.Logic.{Dec·and, Dec·not}
 use mathlib.Core.Path.{_≡_, refl}
 use mathlib.Core.List.{List, [], _∷_}
 use Prim.Native.Nat.{ℕ}
+use Rattle.bits.specs.Truth.{same}
 use Rattle.derivation.specs.Sound.{mostSymbols, mostPairs}
 use Rattle.derivation.specs.Chart.{cells, firingsBound}
-use Rattle.derivation.specs.Examples.{chain, stop}
+use Rattle.derivation.specs.Examples.{chain, quietChain, stop}
 use Rattle.derivation.proofs.Orders.{not-before-self}
-use Rattle.layout.specs.Layout.{rulesFrom, counting, decode}
+use Rattle.layout.specs.Layout.{quietIn, rulesFrom, counting, decode}
 use Rattle.image.specs.Image.{mostEvents, Names}
 use Rattle.image.proofs.Named.{names-low}
 use Rattle.image.proofs.Decided.{pick, answer, decided-both, dec-as, dec-implies, dec-either, dec-every, dec-before, marked?, range?, fit?, rises?, bytes-decided, rules-decided, image-decided, imageRefusal}
@@ -28,23 +29,39 @@ stopImage =
 unfoldable pub twiceImage : List ℕ
 twiceImage = 0x45 ∷ 0x53 ∷ 0x47 ∷ 1 ∷ 0 ∷ 1 ∷ 2 ∷ 0 ∷ 1 ∷ 0 ∷ 0 ∷ 7 ∷ 0 ∷ 0 ∷ 7 ∷ 0 ∷ 0 ∷ 0 ∷ 0 ∷ []
 
+-- CHAIN in version 2 with any flag, and a header of version 2 that ends before its flag
+unfoldable pub flaggedImage : ℕ → List ℕ
+flaggedImage flag = 0x45 ∷ 0x53 ∷ 0x47 ∷ 2 ∷ 0 ∷ 1 ∷ 1 ∷ 0 ∷ 1 ∷ 0 ∷ flag ∷ 0 ∷ 7 ∷ 0 ∷ 0 ∷ 0 ∷ 0 ∷ []
+
+unfoldable pub unflaggedImage : List ℕ
+unflaggedImage = 0x45 ∷ 0x53 ∷ 0x47 ∷ 2 ∷ 0 ∷ 1 ∷ 0 ∷ 0 ∷ 0 ∷ 0 ∷ []
+
 -- they show the grammars of the examples
 pub chain-shown : decode chainImage ≡ chain
-unfolding decode counting rulesFrom chainImage chain
+unfolding decode counting rulesFrom quietIn same chainImage chain
 chain-shown = refl
 
 pub stop-shown : decode stopImage ≡ stop
-unfolding decode counting rulesFrom stopImage stop
+unfolding decode counting rulesFrom quietIn same stopImage stop
 stop-shown = refl
+
+pub quiet-shown : decode (flaggedImage 1) ≡ quietChain
+unfolding decode counting rulesFrom quietIn same flaggedImage chain quietChain
+quiet-shown = refl
 
 -- CHAIN and STOP are accepted, and a rule twice is refusal 7
 pub refusals : (imageRefusal chainImage ∷ imageRefusal stopImage ∷ imageRefusal twiceImage ∷ []) ≡ 0 ∷ 0 ∷ 7 ∷ []
-unfolding imageRefusal image-decided bytes-decided rules-decided decided-both answer pick marked? range? fit? rises? dec-every dec-before dec-as dec-either dec-implies Dec·and Dec·not decode counting rulesFrom chainImage stopImage twiceImage ℕ-discrete decLe decLt
+unfolding imageRefusal image-decided bytes-decided rules-decided decided-both answer pick marked? range? fit? rises? dec-every dec-before dec-as dec-either dec-implies Dec·and Dec·not decode counting rulesFrom quietIn same chainImage stopImage twiceImage ℕ-discrete decLe decLt
 refusals = refl
+
+-- the flags 0 and 1 are accepted and 2 is refusal 4; without the byte it is refusal 5
+pub flags : (imageRefusal (flaggedImage 0) ∷ imageRefusal (flaggedImage 1) ∷ imageRefusal (flaggedImage 2) ∷ imageRefusal unflaggedImage ∷ []) ≡ 0 ∷ 0 ∷ 4 ∷ 5 ∷ []
+unfolding imageRefusal image-decided bytes-decided rules-decided decided-both answer pick marked? range? fit? rises? dec-every dec-before dec-as dec-either dec-implies Dec·and Dec·not decode counting rulesFrom quietIn same flaggedImage unflaggedImage ℕ-discrete decLe decLt
+flags = refl
 
 -- which names rule 1: rule 0 has no predecessor, and no rule is before itself
 pub twice-named : Names (decode twiceImage) 7 1
-unfolding decode counting rulesFrom twiceImage
+unfolding decode counting rulesFrom quietIn same twiceImage
 twice-named = names-low (record { within = omega arith; before = λ r l z. absurd (omega arith); fault = λ h. not-before-self (h (omega arith) (λ e. omega arith)) })
 
 -- at the largest values: the cells, and the most firings

@@ -10,11 +10,11 @@ use lib.ListN.{length}
 use Rattle.derivation.specs.Grammar.{Grammar}
 use Rattle.image.specs.declared.Tested.{Tested}
 use Rattle.image.specs.Refusal.{Row, First}
-use Rattle.layout.specs.Layout.{rulesFrom, decode, Whole}
+use Rattle.layout.specs.Layout.{decode, Whole}
 use Rattle.image.specs.Image.{mostEvents, byteRows, ruleRows, eventRows, imageRows, recordRows, Ranged, Names, Gives, GivesCounts, TestedIs, Accepted, longestImage}
 use Rattle.image.proofs.Refusals.{AllHold, Positive, none, pass, first-only, first-zero, all-hold, all-front, all-back, first-hit, first-pass, past-zero, under}
 use Rattle.image.proofs.Named.{names-same, names-before}
-use Rattle.layout.proofs.Decoded.{leaf-count, pair-count, symbol-count}
+use Rattle.layout.proofs.Decoded.{leaf-count, pair-count, symbol-count, quiet-flag, rules-from-low}
 
 -- ---- one answer only
 gives-only : (t u : Tested) (N L B : ℕ) → t .number ≡ u .number → t .rule ≡ u .rule → Gives t N L B → Gives u N L B → t ≡ u
@@ -93,6 +93,7 @@ module _ (b : List ℕ) where
             symbols = rw symbol-count (q .symbols);
             leaves = rw leaf-count (q .leaves);
             pairs = rw pair-count (q .pairs);
+            quiet = rw quiet-flag (q .quiet);
           };
           fit = h .1 .1 .1 .1 .1 .0;
           rising = h .1 .1 .1 .1 .1 .1 .0;
@@ -113,13 +114,13 @@ module _ (b : List ℕ) where
         symbols = rw (← symbol-count b) (q .symbols);
         leaves = rw (← leaf-count b) (q .leaves);
         pairs = rw (← pair-count b) (q .pairs);
+        quiet = rw (← quiet-flag b) (q .quiet);
       })
       (pass (a .whole .sized) (pass (a .sound .fit) (pass (a .sound .rising) none))))))
 
-  -- an accepted image is at most 2,314 bytes long
+  -- an accepted image is at most 2,315 bytes long
   pub accepted-short : Accepted b → length b ≤ longestImage
-  unfolding rulesFrom
-  accepted-short a = omega (arith, a .whole .sized, a .sound .range .leaves, a .sound .range .pairs, leaf-count b, pair-count b)
+  accepted-short a = omega (arith, rules-from-low b, a .whole .sized, a .sound .range .leaves, a .sound .range .pairs, leaf-count b, pair-count b)
 
   pub tested-accepted : (t : Tested) → TestedIs (imageRows b) (decode b) t → t .number ≡ 0 → Accepted b
   tested-accepted t p e = accepted (subst (First (imageRows b)) e (p .number))

@@ -2,7 +2,7 @@
 -- Assumes nothing.
 use Prim.Native.Nat.{ℕ, _+_, _*_, _≤_}
 use mathlib.Core.Path.{_≡_}
-use mathlib.Core.Logic.{_≢_}
+use mathlib.Core.Logic.{_⊎_, _≢_}
 use mathlib.Core.List.{List, [], _∷_, _++_}
 use lib.ListN.{length}
 use Rattle.bits.specs.Truth.{Every}
@@ -10,7 +10,7 @@ use Rattle.derivation.specs.Grammar.{Grammar, leafCount, pairCount, ruleCount}
 use Rattle.derivation.specs.Sound.{mostLeaves, mostPairs, InRange, SymbolsFit, Rises, Sound}
 use Rattle.rules.specs.Fault.{FirstFault}
 use Rattle.image.specs.Refusal.{Row, _unless_, First}
-use Rattle.layout.specs.Layout.{headerBytes, byteAt, versionIn, symbolsIn, leavesIn, pairsIn, Sized, Whole, decode}
+use Rattle.layout.specs.Layout.{headerBytes, byteAt, versionIn, symbolsIn, leavesIn, pairsIn, quietIn, Sized, Whole, decode}
 use Rattle.image.specs.declared.Refusal.{Refusal}
 use Rattle.image.specs.declared.Tested.{Tested}
 
@@ -21,13 +21,13 @@ pub record Marked (b : List ℕ) : Type 0 where
   pub S : byteAt b 1 ≡ 0x53
   pub G : byteAt b 2 ≡ 0x47
 
--- the version is 1
+-- the version is 1 or 2
 abbrev pub Versioned : List ℕ → Type 0
-Versioned b = versionIn b ≡ 1
+Versioned b = (versionIn b ≡ 1) ⊎ (versionIn b ≡ 2)
 
--- N, L and B are in range
+-- N, L, B and the flag are in range
 abbrev pub Ranged : List ℕ → Type 0
-Ranged b = InRange (symbolsIn b) (leavesIn b) (pairsIn b)
+Ranged b = InRange (symbolsIn b) (leavesIn b) (pairsIn b) (quietIn b)
 
 -- the most events that a record may have
 abbrev pub mostEvents : ℕ
@@ -94,6 +94,6 @@ pub record Accepted (b : List ℕ) : Type 0 where
   pub whole : Whole b
   pub sound : Sound (decode b)
 
--- the longest image that is accepted
+-- the longest image that is accepted, one of version 2
 abbrev pub longestImage : ℕ
-longestImage = headerBytes + 3 * (mostLeaves + mostPairs)
+longestImage = headerBytes + 1 + 3 * (mostLeaves + mostPairs)

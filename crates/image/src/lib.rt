@@ -12,6 +12,7 @@ pub const MOST_EVENTS: usize = 96;
 
 // The bytes of the longest image that is accepted.
 pub const LONGEST_IMAGE: usize = layout::HEADER_BYTES
+    + layout::FLAG_BYTES
     + 3 * (refuse::MOST_LEAVES + refuse::MOST_PAIRS);
 
 // The number of a refusal, or 0, and the first rule at fault: that of 6 and 7, with every other number 0.

@@ -14,6 +14,8 @@ pub const MOST_LEAVES: usize = 512;
 
 pub const MOST_PAIRS: usize = 256;
 
+const MOST_FLAG: usize = 1;
+
 fn marked(image: &[u8]) -> bool
     requires { ⌜ headerBytes ≤ length (now image) ⌝ }
     ensures { λ ok. ⌜ Decides ok (Marked (now (image .entry))) ⌝ }
@@ -34,11 +36,11 @@ fn versioned(image: &[u8]) -> bool
     requires { ⌜ headerBytes ≤ length (now image) ⌝ }
     ensures { λ ok. ⌜ Decides ok (Versioned (now (image .entry))) ⌝ }
 {
-    let version = layout::word_at(image, 3);
+    let version = layout::version(image);
     if version == 1 {
         return true;
     }
-    false
+    version == 2
 }
 
 fn ranged(image: &[u8]) -> bool
@@ -48,6 +50,7 @@ fn ranged(image: &[u8]) -> bool
     let symbols = layout::symbol_count(image);
     let leaves = layout::leaf_count(image);
     let pairs = layout::pair_count(image);
+    let flag = layout::quiet_flag(image);
     if symbols < 1 {
         return false;
     }
@@ -58,6 +61,9 @@ fn ranged(image: &[u8]) -> bool
         return false;
     }
     if MOST_PAIRS < pairs {
+        return false;
+    }
+    if MOST_FLAG < flag {
         return false;
     }
     true

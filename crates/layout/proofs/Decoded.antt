@@ -1,15 +1,17 @@
 -- Laws of the decoded grammar: its counts and rules are where the bytes have them.
 -- Assumes nothing.
 use Prim.Native.Nat.{ℕ, zero, suc, _+_, _-_, _≤_, _<_}
-use native.Mathlib.Nat.{add-zero, not-suc-le-zero, le-of-suc-le-suc}
+use native.Mathlib.Nat.{add-zero, one-mul, zero-mul, not-suc-le-zero, le-of-suc-le-suc}
 use native.Mathlib.Decide.{decLt}
 use native.Mathlib.Omega.{arith}
 use mathlib.Core.Path.{_≡_, refl, sym, ap, _∙_}
+use mathlib.Core.Logic.{_≢_}
 use mathlib.Core.List.{List, map}
-use lib.ListN.{length, getD, length-map}
+use lib.ListN.{length, getD, length-map, List·getD-eq-default}
+use Rattle.bits.proofs.Truths.{same-eq, same-other, same-lt}
 use Rattle.derivation.specs.Grammar.{EventRule, PairRule, leafCount, pairCount, ruleCount, eventRule, pairRule, ruleSymbol}
 use Rattle.derivation.proofs.Sound.{leaf-symbol, pair-symbol}
-use Rattle.layout.specs.Layout.{byteAt, wordAt, symbolsIn, leavesIn, pairsIn, counting, ruleAt, eventRuleAt, pairRuleAt, decode, HasRule, HasPair}
+use Rattle.layout.specs.Layout.{headerBytes, byteAt, wordAt, versionIn, quietIn, rulesFrom, symbolsIn, leavesIn, pairsIn, counting, ruleAt, eventRuleAt, pairRuleAt, decode, HasRule, HasPair}
 
 length-counting : (i n : ℕ) → length (counting i n) ≡ n
 unfolding counting
@@ -35,6 +37,37 @@ module _ (b : List ℕ) where
   pub symbol-count : decode b .symbols ≡ symbolsIn b
   unfolding decode
   symbol-count = refl
+
+  pub quiet-flag : decode b .quiet ≡ quietIn b
+  unfolding decode
+  quiet-flag = refl
+
+  -- version 2 has the flag before its rules, and no other version has one
+  module _ (two : versionIn b ≡ 2) where
+    pub rules-behind : rulesFrom b ≡ headerBytes + 1
+    unfolding rulesFrom
+    rules-behind = omega (arith, same-eq (versionIn b) 2 two)
+
+    pub quiet-byte : decode b .quiet ≡ byteAt b headerBytes
+    unfolding decode quietIn
+    quiet-byte = rw (same-eq (versionIn b) 2 two) (one-mul (byteAt b headerBytes))
+
+    -- a header that ends before it shows 0
+    pub quiet-missing : length b ≡ headerBytes → decode b .quiet ≡ 0
+    quiet-missing e = quiet-byte ∙ List·getD-eq-default b 0 {n = headerBytes} (omega arith)
+
+  module _ (other : versionIn b ≢ 2) where
+    pub rules-at-once : rulesFrom b ≡ headerBytes
+    unfolding rulesFrom
+    rules-at-once = omega (arith, same-other (versionIn b) 2 other)
+
+    pub quiet-none : decode b .quiet ≡ 0
+    unfolding decode quietIn
+    quiet-none = rw (same-other (versionIn b) 2 other) (zero-mul (byteAt b headerBytes))
+
+  pub rules-from-low : rulesFrom b ≤ headerBytes + 1
+  unfolding rulesFrom
+  rules-from-low = omega (arith, same-lt (versionIn b) 2)
 
   leaf-at : (r : ℕ) → r < leafCount (decode b) → eventRule (decode b) r ≡ eventRuleAt b r
   unfolding decode

@@ -4,9 +4,11 @@ use Prim.Native.Nat.{ℕ, suc, zero, _+_, _*_, _≤_, _<_}
 use mathlib.Core.Path.{_≡_}
 use mathlib.Core.List.{List, [], _∷_, map}
 use lib.ListN.{length, getD}
+use Rattle.bits.specs.Truth.{same}
 use Rattle.derivation.specs.Grammar.{EventRule, PairRule, Grammar, leafCount, ruleCount}
 
 -- ---- numbers
+-- a byte past the end is 0
 abbrev pub byteAt : List ℕ → ℕ → ℕ
 byteAt b k = getD b k 0
 
@@ -14,7 +16,7 @@ byteAt b k = getD b k 0
 abbrev pub wordAt : List ℕ → ℕ → ℕ
 wordAt b k = byteAt b k + 256 * byteAt b (k + 1)
 
--- ---- the header
+-- ---- the header: ten bytes, and in version 2 an eleventh, the flag
 abbrev pub headerBytes : ℕ
 headerBytes = 10
 
@@ -31,10 +33,18 @@ leavesIn b = wordAt b 6
 abbrev pub pairsIn : List ℕ → ℕ
 pairsIn b = wordAt b 8
 
+-- 1 in version 2, else 0
+abbrev pub flagBytes : List ℕ → ℕ
+flagBytes b = same (versionIn b) 2
+
+-- an image without the byte has the flag 0
+unfoldable pub quietIn : List ℕ → ℕ
+quietIn b = flagBytes b * byteAt b headerBytes
+
 -- ---- the rules: three bytes each, the event rules and then the pair rules
 -- where they begin, and where rule r stands
 unfoldable pub rulesFrom : List ℕ → ℕ
-rulesFrom b = headerBytes
+rulesFrom b = headerBytes + flagBytes b
 
 abbrev pub ruleAt : List ℕ → ℕ → ℕ
 ruleAt b r = rulesFrom b + 3 * r
@@ -58,6 +68,7 @@ decode b = record {
   symbols = symbolsIn b;
   leaves = map (eventRuleAt b) (counting 0 (leavesIn b));
   pairs = map (pairRuleAt b) (counting (leavesIn b) (pairsIn b));
+  quiet = quietIn b;
 }
 
 -- ---- what a function that reads rules asks: the header is there, all the rules are, and the one that it reads is among them

@@ -3,9 +3,12 @@ ghost use mathlib.Core.Path.{_≡_};
 ghost use Prim.Native.Nat.{_+_, _-_, _<_, _≤_};
 ghost use lib.ListN.{length};
 ghost use Rattle.derivation.specs.Grammar.{leafCount, pairCount, ruleCount, eventRule, pairRule, ruleSymbol};
-ghost use Rattle.layout.specs.Layout.{headerBytes, byteAt, wordAt, rulesFrom, ruleAt, decode, HasRule, HasLeaf, HasPair};
+ghost use Rattle.layout.specs.Layout.{headerBytes, byteAt, wordAt, versionIn, rulesFrom, ruleAt, decode, HasRule, HasLeaf, HasPair};
 
 pub const HEADER_BYTES: usize = 10;
+
+// Version 2 has one byte more.
+pub const FLAG_BYTES: usize = 1;
 
 // ---- numbers
 
@@ -17,7 +20,7 @@ fn byte_at(image: &[u8], at: usize) -> usize
 }
 
 // A 16-bit number, low byte first.
-pub fn word_at(image: &[u8], at: usize) -> usize
+fn word_at(image: &[u8], at: usize) -> usize
     requires { ⌜ at + 1 < length (now image) ⌝ }
     ensures { λ r. ⌜ (r ≡ wordAt (now (image .entry)) at) × (r < 65536) ⌝ }
 {
@@ -26,12 +29,38 @@ pub fn word_at(image: &[u8], at: usize) -> usize
     low + 256 * high
 }
 
+// ---- versions
+
+pub fn version(image: &[u8]) -> usize
+    requires { ⌜ headerBytes ≤ length (now image) ⌝ }
+    ensures { λ r. ⌜ r ≡ versionIn (now (image .entry)) ⌝ }
+{
+    word_at(image, 3)
+}
+
 // Where the rules begin.
 pub fn rules_from(image: &[u8]) -> usize
     requires { ⌜ headerBytes ≤ length (now image) ⌝ }
     ensures { λ r. ⌜ (r ≡ rulesFrom (now (image .entry))) × (r < 16) ⌝ }
 {
+    if version(image) == 2 {
+        return HEADER_BYTES + FLAG_BYTES;
+    }
     HEADER_BYTES
+}
+
+// The flag, which admits the empty record where it is 1. There is none but in version 2.
+pub fn quiet_flag(image: &[u8]) -> usize
+    requires { ⌜ headerBytes ≤ length (now image) ⌝ }
+    ensures { λ r. ⌜ (r ≡ decode (now (image .entry)) .quiet) × (r < 256) ⌝ }
+{
+    if version(image) != 2 {
+        return 0;
+    }
+    if image.len() == HEADER_BYTES {
+        return 0;
+    }
+    byte_at(image, HEADER_BYTES)
 }
 
 // ---- counts

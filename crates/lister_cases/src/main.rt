@@ -11,6 +11,18 @@ fn accepted() {
     shell::list(b"chain", b"ninety-six");
 }
 
+// Version 2: the empty record where the flag is 1, where it is 0, and where it is neither or missing; a record with events; and the longest
+// image, and one byte more.
+fn quiet() {
+    shell::list(b"quiet", b"none");
+    shell::list(b"flag-0", b"none");
+    shell::list(b"flag-2", b"none");
+    shell::list(b"no-flag", b"none");
+    shell::list(b"quiet", b"three");
+    shell::list(b"largest-quiet", b"none");
+    shell::list(b"over-quiet", b"none");
+}
+
 // Each refusal of an image.
 fn images() {
     shell::list(b"short", b"three");
@@ -72,6 +84,7 @@ fn unreadable() {
 
 fn main() {
     accepted();
+    quiet();
     images();
     faults();
     records();

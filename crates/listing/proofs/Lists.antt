@@ -1,21 +1,21 @@
 -- What is written: the numbers of a refusal, the heading, the lines of the first scripts one more at a time; and one outcome only.
 -- Assumes nothing.
-use mathlib.Core.Path.{_≡_, refl, sym, ap, ap₂, _∙_}
-use mathlib.Core.List.{List, [], _∷_, _++_, map, append-assoc, append-nil}
-use Prim.Native.Nat.{ℕ, zero, suc, _+_, _*_, _≤_, _<_}
+use mathlib.Core.Path.{_≡_, sym, ap, ap₂, _∙_}
+use mathlib.Core.List.{List, [], _∷_, _++_, append-assoc, append-nil}
+use Prim.Native.Nat.{ℕ, _+_, _*_, _≤_, _<_}
 use native.Mathlib.Numerals.{add-one}
-use native.Mathlib.Nat.{sub-zero, not-suc-le-zero}
 use native.Mathlib.Decide.{ℕ-discrete}
 use native.Mathlib.Omega.{arith}
 use borrow.Author.Tests.{eq-eqb, ne-eqb}
 use lib.ListN.{length, getD, take, length-map}
 use lib.Seq.{take-suc, take-all, take-at}
 use Rattle.derivation.specs.Grammar.{Grammar}
-use Rattle.derivation.specs.Tree.{Tree, script, scriptWords}
+use Rattle.derivation.specs.Tree.{scriptWords}
+use Rattle.derivation.specs.Reading.{quiet, spelling}
 use Rattle.derivation.specs.Derivations.{readings, scripts}
-use Rattle.derivation.specs.Numbering.{none}
 use Rattle.derivation.proofs.Numbering.{readings-numbered}
-use Rattle.derivation.proofs.Scripts.{script-length}
+use Rattle.derivation.proofs.Lists.{map-at}
+use Rattle.derivation.proofs.Readings.{spelling-length}
 use Rattle.image.proofs.Refusals.{first-only}
 use Rattle.image.proofs.Named.{names-same}
 use Rattle.table.specs.Table.{limit, held}
@@ -58,24 +58,18 @@ lines-next ss k h =
 module _ (g : Grammar) (w : List ℕ) where
   length-scripts : length (scripts g w) ≡ howMany g w
   unfolding scripts
-  length-scripts = length-map (readings g w) script
-
-  mapped : (l : List Tree) (k : ℕ) → k < length l → getD (map script l) k [] ≡ script (getD l k none)
-  mapped [] k h = absurd (not-suc-le-zero h)
-  mapped (t ∷ l) zero h = refl
-  mapped (t ∷ l) (suc k) h = mapped l k (omega arith)
+  length-scripts = length-map (readings g w) spelling
 
   module _ (k : ℕ) (h : k < howMany g w) where
-    script-at : getD (scripts g w) k [] ≡ script (getD (readings g w) k none)
+    script-at : getD (scripts g w) k [] ≡ spelling (getD (readings g w) k quiet)
     unfolding scripts
-    script-at = mapped (readings g w) k h
+    script-at = map-at spelling (readings g w) k quiet [] h
 
     -- the words of the script, in the room that it was written to the front of
     pub line-of : (room r : List ℕ) (n : ℕ) → n ≡ scriptWords (length w)
-        → room ≡ script (getD (readings g w) k none) ++ r → line (take n room) ≡ line (getD (scripts g w) k [])
+        → room ≡ spelling (getD (readings g w) k quiet) ++ r → line (take n room) ≡ line (getD (scripts g w) k [])
     line-of room r n e f =
-        let z : length (script (getD (readings g w) k none)) ≡ n =
-        script-length g w 0 0 (length w) _ (readings-numbered g w .gives k h) ∙ ap scriptWords (sub-zero (length w)) ∙ sym e in
+        let z = spelling-length g w _ (readings-numbered g w .gives k h) ∙ sym e in
         ap line (ap (take n) f ∙ take-at _ r n z ∙ sym script-at)
 
   -- ---- after k lines

@@ -78,11 +78,9 @@ fn write_readings(image: &[u8], events: &[u16], out: &mut [u8]) -> usize
     requires { ⌜ mostBytes ≤ length (now out) ⌝ }
     ensures { λ r. ⌜ (r ≤ length (now (out .exit))) × (take r (now (out .exit)) ≡ listing (decode (now (image .entry))) (now (events .entry))) ⌝ }
 {
-    let n = events.len();
     let mut table = [0u32; TABLE_WORDS];
     table::fill_table(image, events, &mut table);
-    let symbols = layout::symbol_count(image);
-    let total = table::total_in(&table, symbols, n);
+    let total = table::total_in(image, events, &table);
     let end = write_heading(out, total);
     lines::write_lines(image, events, &table, total, out, end)
 }

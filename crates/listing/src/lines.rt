@@ -31,7 +31,7 @@ fn write_line(
     let n = events.len();
     let words = derivation::script_words(n);
     let mut room = [0u16; super::SCRIPT_WORDS];
-    unrank::write_script(image, events, table, 0, 0, n, k, &mut room);
+    unrank::write_reading(image, events, table, k, &mut room);
     text::put_line(out, at, &room[..words])
 }
 

@@ -5,18 +5,18 @@ use mathlib.Core.Logic.{inl, ⊎-elim}
 use mathlib.Core.Bool.{Bool, true, false}
 use mathlib.Core.List.{List}
 use Prim.Native.Nat.{ℕ, _≤_, _<_}
-use native.Mathlib.Nat.{sub-zero, eq-or-lt-of-le}
+use native.Mathlib.Nat.{eq-or-lt-of-le}
 use native.Mathlib.Omega.{arith}
 use lib.ListN.{length, getD, take}
 use lib.Seq.{take-at}
 use Rattle.bits.specs.Truth.{Decides}
 use Rattle.derivation.specs.Order.{Before}
-use Rattle.derivation.specs.Tree.{script, scriptWords, IsReading}
+use Rattle.derivation.specs.Tree.{scriptWords}
+use Rattle.derivation.specs.Reading.{quiet, spelling, IsReading}
 use Rattle.derivation.specs.Derivations.{readings}
-use Rattle.derivation.specs.Numbering.{none}
 use Rattle.derivation.proofs.Orders.{not-before-self}
 use Rattle.derivation.proofs.Numbering.{readings-numbered}
-use Rattle.derivation.proofs.Scripts.{script-length}
+use Rattle.derivation.proofs.Readings.{spelling-length}
 use Rattle.layout.specs.Layout.{decode}
 use Rattle.image.specs.Refusal.{First}
 use Rattle.image.proofs.Refusals.{none as passed, pass, first-only, past-zero, early-rows, late-rows}
@@ -50,16 +50,15 @@ module _ (b w : List ℕ) where
         (a .small) .0
 
     -- what is written is the script of reading k
-    written-is : written w o ≡ script (getD (readings (decode b) w) k none)
+    written-is : written w o ≡ spelling (getD (readings (decode b) w) k quiet)
     written-is =
-        let e : length (script (getD (readings (decode b) w) k none)) ≡ scriptWords (length w) =
-        script-length (decode b) w 0 0 (length w) _ (readings-numbered (decode b) w .gives k below) ∙ rw sub-zero in
+        let e = spelling-length (decode b) w _ (readings-numbered (decode b) w .gives k below) in
         ap (take (scriptWords (length w))) (a .is .written (a .success)) ∙ take-at _ _ (scriptWords (length w)) e
 
     reading : IsReading (decode b) w (written w o)
     reading = record {
-      tree = getD (readings (decode b) w) k none;
-      derives = readings-numbered (decode b) w .gives k below;
+      reading = getD (readings (decode b) w) k quiet;
+      reads = readings-numbered (decode b) w .gives k below;
       spelt = sym written-is;
     }
 
@@ -88,8 +87,8 @@ module _ (b w : List ℕ) where
 
   every : (s : List ℕ) → IsReading (decode b) w s → (k : ℕ) × ((k < howMany (decode b) w) × ((o : List ℕ) → Gave b w k o → written w o ≡ s))
   every s d =
-      let a = readings-numbered (decode b) w .numbered (d .tree) (d .derives) in
-      (a .0, (a .1, λ o p. written-is (a .0) o p ∙ ap script (a .2) ∙ d .spelt))
+      let a = readings-numbered (decode b) w .numbered (d .reading) (d .reads) in
+      (a .0, (a .1, λ o p. written-is (a .0) o p ∙ ap spelling (a .2) ∙ d .spelt))
 
   pub one-to-one : OneToOne b w
   one-to-one = record { each = each; reading = reading; once = once; earlier = earlier; every = every }

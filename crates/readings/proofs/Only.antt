@@ -6,7 +6,7 @@ use mathlib.Core.List.{List}
 use Prim.Native.Nat.{ℕ, _<_}
 use native.Mathlib.Decide.{ℕ-discrete}
 use Rattle.bits.proofs.Truths.{decides-only}
-use Rattle.derivation.specs.Tree.{IsReading}
+use Rattle.derivation.specs.Reading.{IsReading}
 use Rattle.layout.specs.Layout.{decode}
 use Rattle.image.proofs.Refusals.{first-only}
 use Rattle.image.proofs.Named.{names-same}

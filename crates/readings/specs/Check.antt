@@ -7,7 +7,7 @@ use mathlib.Core.List.{List}
 use Prim.Native.Nat.{ℕ}
 use lib.ListN.{length}
 use Rattle.bits.specs.Truth.{Decides}
-use Rattle.derivation.specs.Tree.{IsReading}
+use Rattle.derivation.specs.Reading.{IsReading}
 use Rattle.layout.specs.Layout.{decode}
 use Rattle.image.specs.Refusal.{First}
 use Rattle.image.specs.Image.{recordRows, Names}

@@ -1,11 +1,12 @@
--- Demand 3, of what the service `reading` answers and writes: its numbers and the derivations are one to one, in order.
+-- Demand 3, of what the service `reading` answers and writes: its numbers and the readings are one to one, in order.
 -- Assumes nothing.
 use mathlib.Core.Path.{_≡_}
 use mathlib.Core.List.{List}
 use Prim.Native.Nat.{ℕ, _≤_, _<_}
 use lib.ListN.{length, take}
 use Rattle.derivation.specs.Order.{Before}
-use Rattle.derivation.specs.Tree.{scriptWords, IsReading}
+use Rattle.derivation.specs.Tree.{scriptWords}
+use Rattle.derivation.specs.Reading.{IsReading}
 use Rattle.layout.specs.Layout.{decode}
 use Rattle.image.specs.Refusal.{First}
 use Rattle.table.specs.Table.{limit}

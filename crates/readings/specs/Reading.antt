@@ -5,9 +5,9 @@ use mathlib.Core.Logic.{_⊎_, _≢_}
 use mathlib.Core.List.{List, [], _∷_, _++_}
 use Prim.Native.Nat.{ℕ, _≤_, _<_}
 use lib.ListN.{length, getD, drop}
-use Rattle.derivation.specs.Tree.{script, scriptWords}
+use Rattle.derivation.specs.Tree.{scriptWords}
+use Rattle.derivation.specs.Reading.{quiet, spelling}
 use Rattle.derivation.specs.Derivations.{readings}
-use Rattle.derivation.specs.Numbering.{none}
 use Rattle.layout.specs.Layout.{decode}
 use Rattle.image.specs.Refusal.{Row, _unless_, First}
 use Rattle.image.specs.Image.{Names}
@@ -45,5 +45,5 @@ pub record ReadingIs (b w : List ℕ) (k : ℕ) (table room : List ℕ) (r : Rea
   pub filled : Fills (r .number) → Filled (decode b) w table table′
   pub kept : (Fills (r .number) → ⊥) → table′ ≡ table
   -- the room begins with the script of reading k, and the rest of it is as it was
-  pub written : r .number ≡ 0 → room′ ≡ script (getD (readings (decode b) w) k none) ++ drop (scriptWords (length w)) room
+  pub written : r .number ≡ 0 → room′ ≡ spelling (getD (readings (decode b) w) k quiet) ++ drop (scriptWords (length w)) room
   pub unwritten : r .number ≢ 0 → room′ ≡ room

@@ -40,8 +40,7 @@ pub fn count(image: &[u8], events: &[u16], table: &mut [u32]) -> Counted
         };
     }
     table::fill_table(image, events, table);
-    let symbols = layout::symbol_count(image);
-    let total = table::total_in(table, symbols, n);
+    let total = table::total_in(image, events, table);
     Counted {
         number: 0,
         rule: 0,
@@ -64,8 +63,7 @@ pub fn reading(image: &[u8], events: &[u16], k: u32, table: &mut [u32], room: &m
         };
     }
     table::fill_table(image, events, table);
-    let symbols = layout::symbol_count(image);
-    let total = table::total_in(table, symbols, n);
+    let total = table::total_in(image, events, table);
     let late = refuse::number_refusal(k, total);
     if late != 0 {
         return Read {
@@ -73,7 +71,7 @@ pub fn reading(image: &[u8], events: &[u16], k: u32, table: &mut [u32], room: &m
             rule: 0,
         };
     }
-    unrank::write_script(image, events, table, 0, 0, n, k, room);
+    unrank::write_reading(image, events, table, k, room);
     Read { number: 0, rule: 0 }
 }
 

@@ -1,6 +1,7 @@
 -- The table cell by cell and column by column: what is done stays done, and in the end every count stands.
 -- Assumes nothing.
 use Prim.Native.Nat.{ℕ, _+_, _≤_, _<_}
+use native.Mathlib.Nat.{le-refl}
 use native.Mathlib.Omega.{arith}
 use native.Mathlib.Decide.{ℕ-discrete}
 use mathlib.Core.Path.{_≡_, sym, ap, _∙_}
@@ -10,17 +11,14 @@ use lib.ListN.{length, getD}
 use lib.Seq.{ext-getD}
 use Rattle.bits.proofs.Truths.{lt-or-ge}
 use Rattle.derivation.specs.Grammar.{Grammar, leafCount, pairCount}
-use Rattle.derivation.specs.Derivations.{count, readings, derivations, trees}
+use Rattle.derivation.specs.Derivations.{readings}
 use Rattle.derivation.specs.Sound.{Sound}
+use Rattle.derivation.proofs.Readings.{count-events}
 use Rattle.table.specs.Table.{held, slotOf, tableWords, Filled}
-use Rattle.table.specs.Fill.{leafAdds, pairAdds, Framed, Summed, CellDone, Done, Kept, CountsIn, TotalIs}
+use Rattle.table.specs.Fill.{leafAdds, pairAdds, Framed, Summed, CellDone, Done, Kept, CountsIn}
 use Rattle.table.proofs.Slots.{slot-word, slot-before, slot-after, slot-of}
 use Rattle.table.proofs.Cells.{framed-on}
 use Rattle.table.proofs.Adds.{leaf-counted, ready-done, all-counted}
-
-pub no-readings : (g : Grammar) (w : List ℕ) → length w ≡ 0 → length (readings g w) ≡ 0
-unfolding readings derivations trees
-no-readings g w e = rw e
 
 -- ---- one cell
 -- what the cell's words are worked out from is outside it
@@ -81,12 +79,9 @@ module _ (g : Grammar) (w : List ℕ) where
   pub counts-in : (old t : List ℕ) → tableWords (g .symbols) (length w) ≤ length old → Filled g w old t → CountsIn g w t
   counts-in old t h f = record { fits = rw (f .long) h; at = f .counts }
 
-  pub total-is : (old t : List ℕ) (N n r : ℕ) → N ≡ g .symbols → n ≡ length w → 0 < N → Filled g w old t → TotalIs t N n r → r ≡ held (length (readings g w))
-  unfolding count readings
-  total-is old t N n r eN en pos f h = ⊎-elim
-      (λ (l : 0 < n). h .word l ∙ rw (eN, en) (f .counts 0 0 (length w) (rw (← eN) pos) (rw (← en) l) (omega arith)))
-      (λ (l : n ≤ 0). h .empty (omega arith) ∙ rw (no-readings g w (omega arith)))
-      (lt-or-ge 0 n)
+  -- the word for the whole record is the number of its readings
+  pub total-is : (t : List ℕ) → CountsIn g w t → 0 < g .symbols → 0 < length w → getD t (slotOf (g .symbols) 0 0 (length w)) 0 ≡ held (length (readings g w))
+  total-is t c pos some = c .at 0 0 (length w) pos some (le-refl (length w)) ∙ ap held (sym (count-events g w some))
 
   -- two tables that are filled from one are the same
   pub filled-only : (old a b : List ℕ) → 0 < g .symbols → Filled g w old a → Filled g w old b → a ≡ b
@@ -96,6 +91,3 @@ module _ (g : Grammar) (w : List ℕ) where
       rw (← (s .is)) (f .counts (s .A) (s .i) (s .k) (s .symbol) (s .low) (s .high) ∙ sym (h .counts (s .A) (s .i) (s .k) (s .symbol) (s .low) (s .high))))
       (λ (l : tableWords (g .symbols) (length w) ≤ x). f .past x l ∙ sym (h .past x l))
       (lt-or-ge x (tableWords (g .symbols) (length w))))
-
-pub some-readings : (g : Grammar) (w : List ℕ) (k : ℕ) → k < length (readings g w) → 0 < length w
-some-readings g w k h = ⊎-elim (λ (l : 0 < length w). l) (λ (l : length w ≤ 0). absurd (omega (arith, no-readings g w (omega arith)))) (lt-or-ge 0 (length w))

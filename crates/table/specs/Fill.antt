@@ -73,8 +73,3 @@ pub record Kept (old new : List ℕ) (m : ℕ) : Type 0 where
 pub record CountsIn (g : Grammar) (w t : List ℕ) : Type 0 where
   pub fits : tableWords (g .symbols) (length w) ≤ length t
   pub at : (A i k : ℕ) → A < g .symbols → i < k → k ≤ length w → Right g w t A i k
-
--- r is the word for symbol 0 over all of n events, or 0 where n is 0
-pub record TotalIs (t : List ℕ) (N n r : ℕ) : Type 0 where
-  pub empty : n ≡ 0 → r ≡ 0
-  pub word : 0 < n → r ≡ getD t (slotOf N 0 0 n) 0

@@ -6,10 +6,11 @@ mod fill; // cells and columns
 ghost use mathlib.Core.Path.{_≡_};
 ghost use Prim.Native.Nat.{_≤_, _<_};
 ghost use lib.ListN.{length, getD};
+ghost use Rattle.derivation.specs.Derivations.{readings};
 ghost use Rattle.layout.specs.Layout.{decode};
 ghost use Rattle.image.specs.Image.{Accepted};
-ghost use Rattle.table.specs.Table.{slotOf, tableWords, Filled};
-ghost use Rattle.table.specs.Fill.{splitAdds, InReach, TotalIs};
+ghost use Rattle.table.specs.Table.{held, slotOf, tableWords, Filled};
+ghost use Rattle.table.specs.Fill.{splitAdds, InReach, CountsIn};
 
 // The largest number that a word of the table shows.
 pub const LIMIT: u32 = 4294967295;
@@ -62,13 +63,17 @@ pub fn split_count(
     numbers::held_product(first, second)
 }
 
-// The word for symbol 0 over all of n events, or 0 where there are none.
-pub fn total_in(table: &[u32], symbols: usize, n: usize) -> u32
-    requires { ⌜ (0 < symbols) × (symbols ≤ 64) × (n < 65536) × (tableWords symbols n ≤ length (now table)) ⌝ }
-    ensures { λ r. ⌜ TotalIs (now (table .entry)) symbols n r ⌝ }
+// How many readings a record has, held at the limit: the word for symbol 0 over them all, and where there are none the grammar's flag.
+pub fn total_in(image: &[u8], events: &[u16], table: &[u32]) -> u32
+    requires { ⌜ Accepted (now image) ⌝ }
+    requires { ⌜ CountsIn (decode (now image)) (now events) (now table) × (length (now events) < 65536) ⌝ }
+    ensures { λ r. ⌜ r ≡ held (length (readings (decode (now (image .entry))) (now (events .entry)))) ⌝ }
 {
+    let n = events.len();
     if n == 0 {
-        return 0;
+        let flag = layout::quiet_flag(image);
+        return flag as u32;
     }
+    let symbols = layout::symbol_count(image);
     word_of(table, symbols, 0, 0, n)
 }

@@ -1,4 +1,4 @@
-// From a number to the script of the derivation that has it. The table has to be filled.
+// From a number to the script of the reading that has it. The table has to be filled.
 mod choose; // which rule and split a number is by
 
 use choose::choose_leaf;
@@ -8,7 +8,8 @@ ghost use mathlib.Core.List.{_∷_, _++_};
 ghost use Prim.Native.Nat.{_-_, _≤_, _<_};
 ghost use lib.ListN.{length, getD, drop};
 ghost use Rattle.derivation.specs.Tree.{scriptWords, script as spell};
-ghost use Rattle.derivation.specs.Derivations.{derivations, count as number};
+ghost use Rattle.derivation.specs.Reading.{quiet, spelling};
+ghost use Rattle.derivation.specs.Derivations.{derivations, readings, count as number};
 ghost use Rattle.derivation.specs.Numbering.{none};
 ghost use Rattle.layout.specs.Layout.{decode};
 ghost use Rattle.image.specs.Image.{Accepted};
@@ -26,7 +27,7 @@ fn put_root(room: &mut [u16], rule: usize, split: usize)
 
 // Writes the script of derivation number `rank` of the symbol over i to k to the front of the room: the left part behind the root, and
 // the right part from the middle of the room onward.
-pub fn write_script(
+fn write_script(
     image: &[u8],
     events: &[u16],
     table: &[u32],
@@ -65,4 +66,21 @@ pub fn write_script(
         p.second,
         &mut room[mid..],
     );
+}
+
+// Writes the script of reading number k to the front of the room; that of an empty record has no words.
+pub fn write_reading(image: &[u8], events: &[u16], table: &[u32], k: u32, room: &mut [u16])
+    requires { ⌜ Accepted (now image) ⌝ }
+    requires { ⌜ CountsIn (decode (now image)) (now events) (now table) ⌝ }
+    requires { ⌜ (length (now events) < 65536) × (scriptWords (length (now events)) ≤ length (now room)) ⌝ }
+    requires { ⌜ (k < limit) × (k < length (readings (decode (now image)) (now events))) ⌝ }
+    ensures { λ _. ⌜ now (room .exit) ≡
+        spelling (getD (readings (decode (now (image .entry))) (now (events .entry))) k quiet)
+        ++ drop (scriptWords (length (now (events .entry)))) (now (room .entry)) ⌝ }
+{
+    let n = events.len();
+    if n == 0 {
+        return;
+    }
+    write_script(image, events, table, 0, 0, n, k, room);
 }

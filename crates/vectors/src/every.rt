@@ -1,4 +1,4 @@
-// Every number of a record that is neither empty nor too long: written are how many readings there are, how many of the scripts pass the
+// Every number of a record that is not too long: written are how many readings there are, how many of the scripts pass the
 // check, a number made of all their words, and the refusal of the number past the last.
 use super::ROOM;
 use super::WORDS;
@@ -56,9 +56,6 @@ fn pass_all(image: &[u8], events: &[u16], words: usize, total: u32) -> Passed
 pub fn run(image: &[u8], events: &[u16]) {
     let n = events.len();
     if image::MOST_EVENTS < n {
-        return;
-    }
-    if n == 0 {
         return;
     }
     let words = derivation::script_words(n);

@@ -51,7 +51,8 @@ fill-chart-requires c κs =
 top-has-requires : tie.Need-top-has-requires
 top-has-requires c κs =
     let p = c .before .before .before .before .before .before .before in
-    omega (arith, record-accepted _ _ _ (p .before .test-record .ensures) (p .if1 .left) .1)
+    let r = record-accepted _ _ _ (p .before .test-record .ensures) (p .if1 .left) in
+    (r .0 .whole .long, omega (arith, r .1), omega arith)
 
 items-of-requires : tie.Need-items-of-requires
 items-of-requires c κs =

@@ -1,13 +1,18 @@
--- Past the refusals the table is filled, and its word for the whole record is the total.
+-- Past the refusals the table is filled, and by it the readings are counted.
 -- Assumes nothing.
 use mathlib.Core.Path.{refl}
 use native.Mathlib.Omega.{arith}
+use lib.ListN.{length}
 use Rattle.image.proofs.Named.{names-before}
-use Rattle.table.proofs.Tables.{total-is}
-use Rattle.readings.proofs.Refuses.{count-ok}
+use Rattle.table.proofs.Tables.{counts-in}
+use Rattle.readings.proofs.Refuses.{CountOk, count-ok}
 use borrow.Author.Needs.{needs}
 use Rattle.readings.proofs.count.Statement.{statement}
 use Rattle.readings.proofs.count.Tie as tie
+
+-- what the refusals leave
+ok : (c : tie.Else1) → let s = c .before .before .before .before .before .args in CountOk (s .image .now) (length (s .events .now)) (length (s .table .now))
+ok c = count-ok _ _ _ _ (c .if1 .left) (c .before .count-refusal .ensures .number)
 
 count-refusal-requires : tie.Need-count-refusal-requires
 count-refusal-requires c κs = search needs
@@ -22,30 +27,24 @@ returns c =
     }
 
 fill-table-requires : tie.Need-fill-table-requires
-fill-table-requires c κs = let o = count-ok (c .before .before .before .before .before .before .args .image .now) _ _ _ (c .before .if1 .left) (c .before .before .count-refusal .ensures .number) in (o .image, (omega (arith, o .few), o .fits))
-
-symbol-count-requires : tie.Need-symbol-count-requires
-symbol-count-requires c κs = count-ok (c .before .before .before .before .before .before .before .before .before .args .image .now) _ _ _ (c .before .before .before .before .if1 .left) (c .before .before .before .before .before .count-refusal .ensures .number) .image .whole .long
+fill-table-requires c κs = let o = ok (c .before) in (o .image, (omega (arith, o .few), o .fits))
 
 total-in-requires : tie.Need-total-in-requires
 total-in-requires c κs =
-    let o = count-ok (c .before .before .before .before .before .before .before .before .before .before .before .args .image .now) _ _ _ (c .before .before .before .before .before .before .if1 .left) (c .before .before .before .before .before .before .before .count-refusal .ensures .number) in
-    let n = c .before .symbol-count .ensures .0 in
-    (rw n (o .image .sound .range .some), rw n (o .image .sound .range .symbols), omega (arith, o .few), rw (n, c .before .before .before .before .fill-table .ensures .long) (o .fits))
+    let o = ok (c .before .before .before .before .before) in
+    (o .image, (counts-in _ _ _ _ (o .fits) (c .before .before .before .fill-table .ensures), omega (arith, o .few)))
 
 same-length : tie.Need-same-length
 same-length c = search needs
 
 returns-2 : tie.Need-returns-2
 returns-2 c =
-    let o = count-ok (c .before .before .before .before .before .before .before .before .before .before .before .before .args .image .now) _ _ _ (c .before .before .before .before .before .before .before .if1 .left) (c .before .before .before .before .before .before .before .before .count-refusal .ensures .number) in
-    let n = c .before .before .symbol-count .ensures .0 in
-    let f = c .before .before .before .before .before .fill-table .ensures in
+    let p = c .before .before .before .before .before .before in
     record {
-      number = rw (c .before .before .before .before .before .before .before .if1 .left) at (c .before .before .before .before .before .before .before .before .count-refusal .ensures .number);
+      number = rw (p .if1 .left) at (p .before .count-refusal .ensures .number);
       rule = names-before (omega arith) refl;
       refused = λ z. absurd (z refl);
-      answered = λ _. record { total = total-is _ _ _ _ _ _ _ n refl (rw n (o .image .sound .range .some)) f (c .total-in .ensures); table = f };
+      answered = λ _. record { total = c .total-in .ensures; table = c .before .before .before .before .fill-table .ensures };
     }
 
 pub count-spec : {M : Type 1} → statement M
@@ -55,7 +54,6 @@ count-spec =
     count-refusal-requires
     returns
     fill-table-requires
-    symbol-count-requires
     total-in-requires
     same-length
     returns-2)

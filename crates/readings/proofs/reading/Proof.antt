@@ -1,43 +1,54 @@
 -- Past the early refusals the table is filled; past the late ones the script is written by it.
 -- Assumes nothing.
-use mathlib.Core.Path.{refl, _∙_}
-use native.Mathlib.Nat.{sub-zero}
+use mathlib.Core.Path.{refl}
+use mathlib.Core.List.{List, _++_}
+use Prim.Native.Nat.{ℕ}
 use native.Mathlib.Omega.{arith}
 use lib.ListN.{length}
-use Rattle.derivation.specs.Derivations.{count as number, readings}
+use Rattle.image.specs.Refusal.{Row, First}
 use Rattle.image.proofs.Refusals.{first-hit, past-zero}
-use Rattle.table.proofs.Tables.{counts-in, total-is, some-readings}
+use Rattle.table.proofs.Tables.{counts-in}
 use Rattle.readings.specs.Reading.{lentRows}
-use Rattle.readings.proofs.Refuses.{lent-ok, lent-keeps, number-fills, fills-name, number-ok}
+use Rattle.readings.proofs.Refuses.{LentOk, lent-ok, lent-keeps, number-fills, fills-name, number-ok}
 use borrow.Author.Needs.{needs}
 use Rattle.readings.proofs.reading.Statement.{statement}
 use Rattle.readings.proofs.reading.Tie as tie
+
+-- the early refusals, and what they leave
+abbrev early : tie.Start → List Row
+early s = lentRows (s .args .image .now) (length (s .args .events .now)) (length (s .args .table .now)) (length (s .args .room .now))
+
+ok : (c : tie.Else1) → let s = c .before .before .before .before .before .before .args in
+    LentOk (s .image .now) (length (s .events .now)) (length (s .table .now)) (length (s .room .now))
+ok c = lent-ok _ _ _ _ _ (c .if1 .left) (c .before .lent-refusal .ensures .number)
+
+-- past them the late ones decide
+late : (c : tie.Else1) {more : List Row} {n : ℕ} → First more n → First (early (c .before .before .before .before .before .before) ++ more) n
+late c p = past-zero (early (c .before .before .before .before .before .before)) _ (omega arith) _ (c .if1 .left) (c .before .lent-refusal .ensures .number) p
 
 lent-refusal-requires : tie.Need-lent-refusal-requires
 lent-refusal-requires c κs = search needs
 
 returns : tie.Need-returns
 returns c =
+    let s = c .before .before .before .before .before .before in
+    let p = c .before .lent-refusal .ensures in
     record {
-      number = first-hit (lentRows (c .before .before .before .before .before .before .args .image .now) (length (c .before .before .before .before .before .before .args .events .now)) (length (c .before .before .before .before .before .before .args .table .now)) (length (c .before .before .before .before .before .before .args .room .now))) _ (c .if1 .taken) (c .before .lent-refusal .ensures .number);
-      rule = c .before .lent-refusal .ensures .rule;
-      filled = λ h. absurd (lent-keeps (c .before .before .before .before .before .before .args .image .now) _ _ _ _ (c .if1 .taken) (c .before .lent-refusal .ensures .number) h);
+      number = first-hit (early s) _ (c .if1 .taken) (p .number);
+      rule = p .rule;
+      filled = λ h. absurd (lent-keeps (s .args .image .now) _ _ _ _ (c .if1 .taken) (p .number) h);
       kept = λ _. refl;
       written = λ z. absurd (c .if1 .taken z);
       unwritten = λ _. refl;
     }
 
 fill-table-requires : tie.Need-fill-table-requires
-fill-table-requires c κs = let o = lent-ok (c .before .before .before .before .before .before .before .args .image .now) _ _ _ _ (c .before .if1 .left) (c .before .before .lent-refusal .ensures .number) .count in (o .image, (omega (arith, o .few), o .fits))
-
-symbol-count-requires : tie.Need-symbol-count-requires
-symbol-count-requires c κs = lent-ok (c .before .before .before .before .before .before .before .before .before .before .args .image .now) _ _ _ _ (c .before .before .before .before .if1 .left) (c .before .before .before .before .before .lent-refusal .ensures .number) .count .image .whole .long
+fill-table-requires c κs = let o = ok (c .before) .count in (o .image, (omega (arith, o .few), o .fits))
 
 total-in-requires : tie.Need-total-in-requires
 total-in-requires c κs =
-    let o = lent-ok (c .before .before .before .before .before .before .before .before .before .before .before .before .args .image .now) _ _ _ _ (c .before .before .before .before .before .before .if1 .left) (c .before .before .before .before .before .before .before .lent-refusal .ensures .number) .count in
-    let n = c .before .symbol-count .ensures .0 in
-    (rw n (o .image .sound .range .some), rw n (o .image .sound .range .symbols), omega (arith, o .few), rw (n, c .before .before .before .before .fill-table .ensures .long) (o .fits))
+    let o = ok (c .before .before .before .before .before) .count in
+    (o .image, (counts-in _ _ _ _ (o .fits) (c .before .before .before .fill-table .ensures), omega (arith, o .few)))
 
 number-refusal-requires : tie.Need-number-refusal-requires
 number-refusal-requires c κs = search needs
@@ -47,33 +58,26 @@ same-length c = search needs
 
 returns-2 : tie.Need-returns-2
 returns-2 c =
-    let o = lent-ok (c .before .before .before .before .before .before .before .before .before .before .before .before .before .before .before .args .image .now) _ _ _ _ (c .before .before .before .before .before .before .before .before .before .if1 .left) (c .before .before .before .before .before .before .before .before .before .before .lent-refusal .ensures .number) in
-    let n = c .before .before .before .before .symbol-count .ensures .0 in
-    let f = c .before .before .before .before .before .before .before .fill-table .ensures in
-    let t = total-is _ _ _ _ _ _ _ n refl (rw n (o .count .image .sound .range .some)) f (c .before .before .total-in .ensures) in
-    let p = c .before .number-refusal .ensures _ t in
+    let f = c .before .before .before .before .before .before in
+    let p = c .before .number-refusal .ensures _ (c .before .before .total-in .ensures) in
     record {
-      number = past-zero (lentRows (c .before .before .before .before .before .before .before .before .before .before .before .before .before .before .before .args .image .now) (length (c .before .before .before .before .before .before .before .before .before .before .before .before .before .before .before .args .events .now)) (length (c .before .before .before .before .before .before .before .before .before .before .before .before .before .before .before .args .table .now)) (length (c .before .before .before .before .before .before .before .before .before .before .before .before .before .before .before .args .room .now))) _ (omega arith) _ (c .before .before .before .before .before .before .before .before .before .if1 .left) (c .before .before .before .before .before .before .before .before .before .before .lent-refusal .ensures .number) p;
+      number = late (f .before .before) p;
       rule = fills-name _ (number-fills _ _ _ p);
-      filled = λ _. f;
+      filled = λ _. f .fill-table .ensures;
       kept = λ h. absurd (h (number-fills _ _ _ p));
       written = λ z. absurd (c .if2 .taken z);
       unwritten = λ _. refl;
     }
 
-write-script-requires : tie.Need-write-script-requires
-unfolding number readings
-write-script-requires c κs =
-    let o = lent-ok (c .before .before .before .before .before .before .before .before .before .before .before .before .before .before .before .before .before .args .image .now) _ _ _ _ (c .before .before .before .before .before .before .before .before .before .before .before .if1 .left) (c .before .before .before .before .before .before .before .before .before .before .before .before .lent-refusal .ensures .number) in
-    let n = c .before .before .before .before .before .before .symbol-count .ensures .0 in
-    let f = c .before .before .before .before .before .before .before .before .before .fill-table .ensures in
-    let t = total-is _ _ _ _ _ _ _ n refl (rw n (o .count .image .sound .range .some)) f (c .before .before .before .before .total-in .ensures) in
-    let q = number-ok _ _ _ (c .before .before .if2 .left) (c .before .before .before .number-refusal .ensures _ t) (omega (arith, c .before .before .before .before .before .before .before .before .before .before .before .before .before .before .before .before .before .fits .k)) in (
+write-reading-requires : tie.Need-write-reading-requires
+write-reading-requires c κs =
+    let n = c .before .before .before in
+    let f = n .before .before .before .before .before in
+    let o = ok (f .before .before) in
+    let s = f .before .before .before .before .before .before .before .before in
+    let q = number-ok _ _ _ (c .before .before .if2 .left) (n .number-refusal .ensures _ (n .before .total-in .ensures)) (omega (arith, s .fits .k)) in (
       o .count .image,
-      (
-        counts-in _ _ _ _ (o .count .fits) f,
-        ((some-readings _ _ _ (q .0), omega arith, omega (arith, o .count .few), rw sub-zero (o .fits)), (omega (arith, q .1), omega (arith, q .0))),
-      ),
+      (counts-in _ _ _ _ (o .count .fits) (f .fill-table .ensures), ((omega (arith, o .count .few), o .fits), (q .1, q .0))),
     )
 
 same-length-2 : tie.Need-same-length-2
@@ -83,19 +87,16 @@ same-length-3 : tie.Need-same-length-3
 same-length-3 c = search needs
 
 returns-3 : tie.Need-returns-3
-unfolding readings
 returns-3 c =
-    let o = lent-ok (c .before .before .before .before .before .before .before .before .before .before .before .before .before .before .before .before .before .before .before .before .args .image .now) _ _ _ _ (c .before .before .before .before .before .before .before .before .before .before .before .before .before .before .if1 .left) (c .before .before .before .before .before .before .before .before .before .before .before .before .before .before .before .lent-refusal .ensures .number) in
-    let n = c .before .before .before .before .before .before .before .before .before .symbol-count .ensures .0 in
-    let f = c .before .before .before .before .before .before .before .before .before .before .before .before .fill-table .ensures in
-    let t = total-is _ _ _ _ _ _ _ n refl (rw n (o .count .image .sound .range .some)) f (c .before .before .before .before .before .before .before .total-in .ensures) in
-    let p = rw (c .before .before .before .before .before .if2 .left) at (c .before .before .before .before .before .before .number-refusal .ensures _ t) in
+    let n = c .before .before .before .before .before .before in
+    let f = n .before .before .before .before .before in
+    let p = rw (c .before .before .before .before .before .if2 .left) at (n .number-refusal .ensures _ (n .before .total-in .ensures)) in
     record {
-      number = past-zero (lentRows (c .before .before .before .before .before .before .before .before .before .before .before .before .before .before .before .before .before .before .before .before .args .image .now) (length (c .before .before .before .before .before .before .before .before .before .before .before .before .before .before .before .before .before .before .before .before .args .events .now)) (length (c .before .before .before .before .before .before .before .before .before .before .before .before .before .before .before .before .before .before .before .before .args .table .now)) (length (c .before .before .before .before .before .before .before .before .before .before .before .before .before .before .before .before .before .before .before .before .args .room .now))) _ (omega arith) _ (c .before .before .before .before .before .before .before .before .before .before .before .before .before .before .if1 .left) (c .before .before .before .before .before .before .before .before .before .before .before .before .before .before .before .lent-refusal .ensures .number) p;
+      number = late (f .before .before) p;
       rule = fills-name _ (number-fills _ _ _ p);
-      filled = λ _. f;
+      filled = λ _. f .fill-table .ensures;
       kept = λ h. absurd (h (number-fills _ _ _ p));
-      written = λ _. c .before .before .write-script .ensures ∙ rw sub-zero;
+      written = λ _. c .before .before .write-reading .ensures;
       unwritten = λ z. absurd (z refl);
     }
 
@@ -106,12 +107,11 @@ reading-spec =
     lent-refusal-requires
     returns
     fill-table-requires
-    symbol-count-requires
     total-in-requires
     number-refusal-requires
     same-length
     returns-2
-    write-script-requires
+    write-reading-requires
     same-length-2
     same-length-3
     returns-3)

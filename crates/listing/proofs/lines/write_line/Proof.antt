@@ -2,35 +2,27 @@
 -- Assumes nothing.
 use mathlib.Core.Path.{sym, ap, _∙_}
 use mathlib.Core.List.{List, _++_}
-use Prim.Native.Nat.{ℕ, _<_}
-use native.Mathlib.Nat.{sub-zero}
+use Prim.Native.Nat.{ℕ}
 use native.Mathlib.Omega.{arith}
-use lib.ListN.{length, take, length-take}
+use lib.ListN.{take, length-take}
 use lib.Seq.{length-take-le}
 use denote.Ref.{now}
-use Rattle.derivation.specs.Derivations.{count as number, readings}
-use Rattle.table.proofs.Tables.{some-readings}
 use Rattle.listing.proofs.Lists.{line-of}
 use borrow.Author.Needs.{needs}
 use Rattle.listing.proofs.lines.write_line.Statement.{statement}
 use Rattle.listing.proofs.lines.write_line.Tie as tie
 
--- a record that has a reading has an event
-some : (c : tie.Start) → 0 < length (now (c .args .events))
-some c = some-readings _ _ _ (c .pre .1 .1 .0 .2)
-
 script-words-requires : tie.Need-script-words-requires
 script-words-requires c κs = omega (arith, c .before .before .before .before .pre .1 .1 .0 .0)
 
-slice-aggregate-write-script : tie.Need-slice-aggregate-write-script
-slice-aggregate-write-script c = search needs
+slice-aggregate-write-reading : tie.Need-slice-aggregate-write-reading
+slice-aggregate-write-reading c = search needs
 
-write-script-requires : tie.Need-write-script-requires
-unfolding number readings
-write-script-requires c κs =
+write-reading-requires : tie.Need-write-reading-requires
+write-reading-requires c κs =
     let q = c .before .before .before .before .before .before .pre in
     let p = q .1 .1 .0 in
-    (q .0, (q .1 .0, ((some (c .before .before .before .before .before .before), omega arith, omega (arith, p .0), rw sub-zero (omega (arith, p .0))), (p .1, p .2))))
+    (q .0, (q .1 .0, ((omega (arith, p .0), omega (arith, p .0)), (p .1, p .2))))
 
 array-share-prefix-room : tie.Need-array-share-prefix-room
 array-share-prefix-room c = omega (arith, c .before .before .before .before .before .before .before .before .before .pre .1 .1 .0 .0, c .before .before .before .before .script-words .ensures)
@@ -45,21 +37,20 @@ same-length : tie.Need-same-length
 same-length c = search needs
 
 returns : tie.Need-returns
-unfolding readings
 returns c =
     let p = c .before .before .before .before .before .before .before .before .before .before .before .before .before .pre .1 .1 .0 in
     let e = c .before .before .before .before .before .before .before .before .script-words .ensures in
     let b = rw length-take at (c .before .before .put-line .ensures .0) in
     let front = take (c .before .before .before .before .before .before .before .before .before .before .before .before .before .args .at) (now (c .before .before .before .before .before .before .before .before .before .before .before .before .before .args .out)) in
-    (omega (arith, b, p .0, e), c .before .before .put-line .ensures .1 ∙ ap (λ (x : List ℕ). front ++ x) (line-of _ _ _ (p .2) _ _ _ e (c .before .before .before .before .before .before .write-script .ensures)))
+    (omega (arith, b, p .0, e), c .before .before .put-line .ensures .1 ∙ ap (λ (x : List ℕ). front ++ x) (line-of _ _ _ (p .2) _ _ _ e (c .before .before .before .before .before .before .write-reading .ensures)))
 
 pub write-line-spec : {M : Type 1} → statement M
 write-line-spec =
     tie.close
     (tie.spec
     script-words-requires
-    slice-aggregate-write-script
-    write-script-requires
+    slice-aggregate-write-reading
+    write-reading-requires
     array-share-prefix-room
     slice-aggregate-put-line
     put-line-requires

@@ -1,0 +1,144 @@
+-- `readings` holds exactly the readings, in the order of their scripts; and what it is of an empty record, and of one with events.
+-- Assumes nothing.
+use mathlib.Core.Path.{_≡_, refl, sym, ap, _∙_, subst⁻¹}
+use mathlib.Core.Bool.{Bool, true, false, _&&_}
+use mathlib.Core.Logic.{⊎-elim}
+use mathlib.Core.List.{List, [], _∷_, _++_, map, List·Memᴰ·head, List·Memᴰ·not-nil, List·Memᴰ·append-cases, List·Memᴰ·eq-of-singleton, Memᴰ·append-left, Memᴰ·append-right}
+use Prim.Native.Nat.{ℕ, _+_, _*_, _≤_, _<_}
+use native.Mathlib.Nat.{sub-zero}
+use native.Mathlib.Omega.{arith}
+use native.Mathlib.Decide.{ℕ-discrete}
+use lib.Dec.{T, eqb, eqb→eq}
+use lib.ListN.{length, getD, length-append, length-map}
+use Rattle.bits.specs.Truth.{same}
+use Rattle.bits.proofs.Truths.{same-eq, same-other}
+use Rattle.derivation.specs.Grammar.{Grammar}
+use Rattle.derivation.specs.Order.{Before}
+use Rattle.derivation.specs.Tree.{Tree, Derives, Derivable, script, scriptWords, Spells}
+use Rattle.derivation.specs.Reading.{Reading, quiet, derived, Reads, Admitted, spelling, IsReading}
+use Rattle.derivation.specs.Derivations.{gate, trees, derivations, readings, count}
+use Rattle.derivation.specs.Numbering.{none}
+use Rattle.derivation.proofs.Lists.{_∈_, eq→eqb, both, first, second, truth-and, truth-eqb, gate-of, gate-yes, gate-no, length-gate, map-of, in-map, map-at, in-getD, no-length}
+use Rattle.derivation.proofs.Orders.{rising-append, rising-gate, rising-map, Rising}
+use Rattle.derivation.proofs.Exact.{some-events, derivations-sound, derivations-complete}
+use Rattle.derivation.proofs.Rising.{Earlier, derivations-rising}
+use Rattle.derivation.proofs.Scripts.{script-length}
+
+module _ (g : Grammar) (w : List ℕ) where
+  abbrev test : Bool
+  test = eqb (g .quiet) 1 && eqb (length w) 0
+
+  abbrev trees-of : List Tree
+  trees-of = derivations g w 0 0 (length w)
+
+  -- ---- the elements
+  pub readings-sound : (r : Reading) → r ∈ readings g w → Reads g w r
+  unfolding readings
+  readings-sound r m =
+      ⊎-elim
+      (λ a.
+      let q = gate-of test (quiet ∷ []) a in
+      subst⁻¹ (Reads g w) (List·Memᴰ·eq-of-singleton (q .1))
+      (eqb→eq (g .quiet) 1 (first (eqb (g .quiet) 1) (eqb (length w) 0) (q .0)), eqb→eq (length w) 0 (second (eqb (g .quiet) 1) (eqb (length w) 0) (q .0))))
+      (λ a. let q = map-of derived trees-of a in subst⁻¹ (Reads g w) (q .2) (derivations-sound g w 0 0 (length w) (q .1)))
+      (List·Memᴰ·append-cases (gate test (quiet ∷ [])) m)
+
+  pub readings-complete : (r : Reading) → Reads g w r → r ∈ readings g w
+  unfolding readings
+  readings-complete quiet d =
+      let t = both (eqb (g .quiet) 1) (eqb (length w) 0) (eq→eqb (g .quiet) 1 (d .0)) (eq→eqb (length w) 0 (d .1)) in
+      let m : quiet ∈ gate test (quiet ∷ []) = rw (gate-yes test (quiet ∷ []) t) (List·Memᴰ·head refl) in
+      Memᴰ·append-left (map derived trees-of) m
+  readings-complete (derived t) d =
+      Memᴰ·append-right (gate test (quiet ∷ [])) (in-map derived (derivations-complete g w 0 0 (length w) t d))
+
+  -- ---- their order: an empty record has no derivation, so nothing stands behind the quiet reading
+  abbrev Before′ : Reading → Reading → Type 0
+  Before′ r s = Before (spelling r) (spelling s)
+
+  keeps : (t u : Tree) → Earlier t u → Before′ (derived t) (derived u)
+  unfolding spelling
+  keeps t u e = e
+
+  pub readings-rising : Rising Before′ (readings g w)
+  unfolding readings
+  readings-rising =
+      rising-append Before′ (gate test (quiet ∷ [])) (map derived trees-of)
+      (rising-gate Before′ test (quiet ∷ []) (λ y m. absurd (List·Memᴰ·not-nil m), tt))
+      (rising-map Earlier Before′ derived keeps trees-of (derivations-rising g w 0 0 (length w)))
+      (λ x y m n.
+      let a = second (eqb (g .quiet) 1) (eqb (length w) 0) (gate-of test (quiet ∷ []) m .0) in
+      let b = map-of derived trees-of n in
+      absurd (omega (arith, eqb→eq (length w) 0 a, some-events g w 0 0 (length w) (b .0) (derivations-sound g w 0 0 (length w) (b .1)))))
+
+  -- ---- how long a script is: 2 (2 n - 1) words, and none for an empty record
+  pub spelling-length : (r : Reading) → Reads g w r → length (spelling r) ≡ scriptWords (length w)
+  unfolding spelling
+  spelling-length quiet d = omega (arith, d .1)
+  spelling-length (derived t) d = script-length g w 0 0 (length w) t d ∙ rw sub-zero
+
+  pub reading-length : (s : List ℕ) → IsReading g w s → length s ≡ scriptWords (length w)
+  reading-length s p = sym (ap length (p .spelt)) ∙ spelling-length (p .reading) (p .reads)
+
+  -- ---- of a record with events, the derivations alone
+  module _ (some : 0 < length w) where
+    by-rules : readings g w ≡ map derived trees-of
+    unfolding readings
+    by-rules = rw (gate-no test (quiet ∷ []) (λ t. omega (arith, eqb→eq (length w) 0 (second (eqb (g .quiet) 1) (eqb (length w) 0) t))))
+
+    pub count-events : length (readings g w) ≡ count g w 0 0 (length w)
+    unfolding count
+    count-events = rw by-rules (length-map trees-of derived)
+
+    pub reading-at : (k : ℕ) → k < length (readings g w) → spelling (getD (readings g w) k quiet) ≡ script (getD trees-of k none)
+    unfolding spelling
+    reading-at k h = rw by-rules (ap spelling (map-at derived trees-of k none quiet (rw (by-rules, length-map) at h)))
+
+    pub admitted-of : Derivable g w 0 0 (length w) → Admitted g w
+    admitted-of d = (derived (d .0), d .1)
+
+    pub of-admitted : Admitted g w → Derivable g w 0 0 (length w)
+    of-admitted (quiet, d) = absurd (omega (arith, d .1))
+    of-admitted (derived t, d) = (t, d)
+
+    pub reading-of : (s : List ℕ) → Spells g w 0 0 (length w) s → IsReading g w s
+    unfolding spelling
+    reading-of s p = record { reading = derived (p .tree); reads = p .derives; spelt = p .spelt }
+
+    pub of-reading : (s : List ℕ) → IsReading g w s → Spells g w 0 0 (length w) s
+    unfolding spelling
+    of-reading s p = go (p .reading) (p .reads) (p .spelt)
+      where
+        go : (r : Reading) → Reads g w r → spelling r ≡ s → Spells g w 0 0 (length w) s
+        go quiet d e = absurd (omega (arith, d .1))
+        go (derived t) d e = record { tree = t; derives = d; spelt = e }
+
+  -- ---- of an empty record, the quiet one or none
+  module _ (empty : length w ≡ 0) where
+    no-derivation : (t : Tree) → Derives g w 0 0 (length w) t → ⊥
+    no-derivation t d = omega (arith, some-events g w 0 0 (length w) t d)
+
+    pub count-quiet : g .quiet ≤ 1 → length (readings g w) ≡ g .quiet
+    unfolding readings derivations trees
+    count-quiet h = rw (empty, length-append, length-gate, truth-and, truth-eqb) (flag (g .quiet) h)
+      where
+        flag : (f : ℕ) → f ≤ 1 → same f 1 * 1 * 1 + 0 ≡ f
+        flag f l = elim (ℕ-discrete f 1) [ yes e ↦ omega (arith, same-eq f 1 e) | no e ↦ omega (arith, same-other f 1 e) ]
+
+    pub admitted-quiet : g .quiet ≡ 1 → Admitted g w
+    admitted-quiet e = (quiet, (e, empty))
+
+    pub quiet-admitted : Admitted g w → g .quiet ≡ 1
+    quiet-admitted (quiet, d) = d .0
+    quiet-admitted (derived t, d) = absurd (no-derivation t d)
+
+    pub reading-quiet : (s : List ℕ) → length s ≡ 0 → g .quiet ≡ 1 → IsReading g w s
+    unfolding spelling
+    reading-quiet s l e = record { reading = quiet; reads = (e, empty); spelt = sym (no-length s l) }
+
+    pub quiet-reading : (s : List ℕ) → IsReading g w s → g .quiet ≡ 1
+    quiet-reading s p = quiet-admitted (p .reading, p .reads)
+
+    -- the one number is 0, of the empty script
+    pub spelling-quiet : (k : ℕ) → k < length (readings g w) → spelling (getD (readings g w) k quiet) ≡ []
+    spelling-quiet k h = no-length _ (spelling-length _ (readings-sound _ (in-getD quiet (readings g w) k h)) ∙ omega arith)
