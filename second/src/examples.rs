@@ -1,8 +1,9 @@
 //! Images for the tests and the comparisons.
 
+use crate::image::header_bytes;
 use crate::random::Random;
 
-/// An image of these rules; each kind is put in order here, and of equal rules one is kept.
+/// A version 1 image of these rules; each kind is put in order here, and of equal rules one is kept.
 pub fn image(symbols: u8, event_rules: &[(u8, u16)], pair_rules: &[(u8, u8, u8)]) -> Vec<u8> {
     let (mut event_rules, mut pair_rules) = (event_rules.to_vec(), pair_rules.to_vec());
     event_rules.sort();
@@ -21,6 +22,11 @@ pub fn image(symbols: u8, event_rules: &[(u8, u16)], pair_rules: &[(u8, u8, u8)]
         image.extend([symbol, left, right]);
     }
     image
+}
+
+/// A version 1 image, refused or not but of ten bytes or more, in version 2 with this flag.
+pub fn version_2(image: &[u8], flag: u8) -> Vec<u8> {
+    [&image[..3], &[2, 0], &image[5..10], &[flag], &image[10..]].concat()
 }
 
 /// CHAIN: as many readings as there are ways to put brackets.
@@ -64,12 +70,13 @@ pub fn digits(total: u64) -> Vec<u16> {
 /// The image with rules at fault: first each of `repeated`, none of them the first of its kind, is
 /// made equal to the rule before it, then each of `unknown` gets N for its symbol.
 pub fn faulty(mut image: Vec<u8>, unknown: &[usize], repeated: &[usize]) -> Vec<u8> {
+    let header = header_bytes(&image);
     for rule in repeated {
-        let start = 10 + 3 * rule;
+        let start = header + 3 * rule;
         image.copy_within(start - 3..start, start);
     }
     for rule in unknown {
-        image[10 + 3 * rule] = image[5];
+        image[header + 3 * rule] = image[5];
     }
     image
 }

@@ -1,4 +1,4 @@
-//! The grammar image: its layout, and refusals 1 to 7.
+//! The grammar image: its layout in both versions, and refusals 1 to 7.
 
 /// Turns `symbol` into `event`. Rules are compared by their fields in this order.
 #[derive(Clone, Copy, Debug, PartialEq, Eq, PartialOrd, Ord)]
@@ -20,6 +20,8 @@ pub struct PairRule {
 pub struct Grammar {
     /// N of the specification: symbols are 0 to N - 1.
     pub symbols: usize,
+    /// Whether an empty record is admitted: so says a flag of 1, which version 1 doesn't have.
+    pub admits_empty: bool,
     pub event_rules: Vec<EventRule>,
     pub pair_rules: Vec<PairRule>,
 }
@@ -86,16 +88,30 @@ pub fn decode(image: &[u8]) -> Result<Grammar, Refusal> {
 pub fn shown(image: &[u8]) -> Result<Grammar, Refusal> {
     refuse_if(image.len() < 10, 1)?;
     refuse_if(image[0..3] != *b"ESG", 2)?;
-    refuse_if(number_at(image, 3) != 1, 3)?;
+    let version = number_at(image, 3);
+    refuse_if(version != 1 && version != 2, 3)?;
     let (n, l, b) = (image[5] as usize, number_at(image, 6), number_at(image, 8));
     refuse_if(!(1..=64).contains(&n) || l > 512 || b > 256, 4)?;
-    refuse_if(image.len() != 10 + 3 * (l + b), 5)?;
-    let (event_rules, pair_rules) = image[10..].split_at(3 * l);
+    // An image that ends before its flag has none to be refused for, only a wrong length.
+    let flag = image.get(10).filter(|_| version == 2);
+    refuse_if(flag.is_some_and(|&flag| flag > 1), 4)?;
+    let header = header_bytes(image);
+    refuse_if(image.len() != header + 3 * (l + b), 5)?;
+    let (event_rules, pair_rules) = image[header..].split_at(3 * l);
     Ok(Grammar {
         symbols: n,
+        admits_empty: flag == Some(&1),
         event_rules: event_rules.chunks(3).map(event_rule).collect(),
         pair_rules: pair_rules.chunks(3).map(pair_rule).collect(),
     })
+}
+
+/// How many bytes come before the rules: version 2 has its flag there.
+pub fn header_bytes(image: &[u8]) -> usize {
+    match image.get(3..5) {
+        Some([2, 0]) => 11,
+        _ => 10,
+    }
 }
 
 /// An error if the refusal applies, so that `?` makes the first that does the answer.

@@ -35,9 +35,13 @@ impl<'a> Readings<'a> {
         }
     }
 
-    /// The number of readings, cut at the largest u128.
+    /// The number of readings, cut at the largest u128. An empty record has one where the grammar
+    /// admits it, though no symbol derives it.
     pub fn total(&self) -> u128 {
-        self.derivations(0)
+        match self.events {
+            [] => self.grammar.admits_empty.into(),
+            _ => self.derivations(0),
+        }
     }
 
     /// The count table: each number of derivations, or 4,294,967,295 if that is smaller.
@@ -90,11 +94,12 @@ pub fn cut(count: u128) -> u32 {
     count.min(u32::MAX.into()) as u32
 }
 
-/// The script of every derivation of [0, 0, n], sorted. Lists of words are compared word by word
-/// and the first difference decides.
+/// The script of every reading, sorted: of every derivation of [0, 0, n], or the empty script alone
+/// where an empty record is admitted. Lists of words are compared word by word and the first
+/// difference decides.
 pub fn listed(grammar: &Grammar, events: &[u16]) -> Vec<Vec<u16>> {
     if events.is_empty() {
-        return Vec::new();
+        return Vec::from_iter(grammar.admits_empty.then(Vec::new));
     }
     let forest = Forest {
         grammar,
@@ -107,9 +112,13 @@ pub fn listed(grammar: &Grammar, events: &[u16]) -> Vec<Vec<u16>> {
     scripts
 }
 
-/// Whether the words are the script of a derivation of [0, 0, n].
+/// Whether the words are the script of a reading: of a derivation of [0, 0, n], or none at all where
+/// an empty record is admitted.
 pub fn is_reading(grammar: &Grammar, events: &[u16], words: &[u16]) -> bool {
-    !events.is_empty() && is_script(grammar, events, words, 0, 0, events.len())
+    match events {
+        [] => grammar.admits_empty && words.is_empty(),
+        _ => is_script(grammar, events, words, 0, 0, events.len()),
+    }
 }
 
 /// Whether the words are the script of a derivation of [a, i, k].

@@ -133,7 +133,10 @@ fn judged(image: &[u8], events: &[u16], chart: &mut [u64]) -> Result<Judged, Ref
     Ok(Judged {
         number: 0,
         rule: 0,
-        admitted: n > 0 && derivable.get(0, 0, n),
+        admitted: match n {
+            0 => grammar.admits_empty,
+            n => derivable.get(0, 0, n),
+        },
         items: ones.sum(),
         firings: firings(&grammar, events, &derivable),
     })

@@ -20,7 +20,8 @@ pub enum Tree {
     },
 }
 
-/// The words of a script over so many events; none for an empty record, which has no reading.
+/// The words of a script over so many events; none for an empty record, whose one reading, where it
+/// is admitted, is the empty script.
 pub fn script_words(events: usize) -> usize {
     match events {
         0 => 0,

@@ -1,6 +1,6 @@
 //! The listing program's output.
 
-use second::examples::{binary, chain, digits, faulty, image, largest, stop};
+use second::examples::{binary, chain, digits, faulty, image, largest, stop, version_2};
 use second::listing::output;
 
 /// The listing of these events as a file.
@@ -107,4 +107,41 @@ fn no_readings() {
     assert_eq!(output(Some(&chain()), Some(&[0, 7])), "readings 0\n");
     let one = "readings 1\n0 1\n";
     assert_eq!(output(Some(&chain()), Some(&[7, 0])), one);
+}
+
+/// The line of the empty script is blank.
+#[test]
+fn quiet_shift() {
+    for image in [chain(), stop(), largest(), image(64, &[], &[])] {
+        assert_eq!(listed(&image, &[]), "readings 0\n");
+        assert_eq!(listed(&version_2(&image, 0), &[]), "readings 0\n");
+        assert_eq!(listed(&version_2(&image, 1), &[]), "readings 1\n\n");
+        assert_eq!(listed(&version_2(&image, 2), &[]), "refused 4\n");
+    }
+    let quiet = version_2(&chain(), 1);
+    assert_eq!(listed(&quiet, &[7]), "readings 1\n0 1\n");
+    assert_eq!(listed(&quiet, &[8]), "readings 0\n");
+    assert_eq!(listed(&quiet, &[7; 3]), listed(&chain(), &[7; 3]));
+    assert_eq!(output(Some(&quiet), Some(&[7])), "refused 14\n");
+    assert_eq!(output(Some(&quiet), Some(&[7; 193])), "refused 8\n");
+}
+
+#[test]
+fn versions_and_lengths() {
+    let refused = |image: &[u8]| listed(image, &[]);
+    let image = version_2(&largest(), 1);
+    assert_eq!(refused(&image[..9]), "refused 1\n");
+    assert_eq!(refused(&image[..10]), "refused 5\n");
+    assert_eq!(refused(&image[..11]), "refused 5\n");
+    assert_eq!(refused(&image[..2_314]), "refused 5\n");
+    for more in [1, 2, 65_536] {
+        let long = [image.clone(), vec![0; more]].concat();
+        assert_eq!(refused(&long), "refused 5\n");
+    }
+    let version_3 = [&image[..3], &[3], &image[4..]].concat();
+    assert_eq!(refused(&version_3), "refused 3\n");
+    let unknown = faulty(image.clone(), &[600], &[]);
+    assert_eq!(refused(&unknown), "refused 6 600\n");
+    let repeated = faulty(image, &[], &[513]);
+    assert_eq!(refused(&repeated), "refused 7 513\n");
 }

@@ -1,6 +1,9 @@
 //! Each refusal, and what it leaves in the lent memory.
 
-use second::examples::{chain, faulty, image, largest, stop};
+mod refused;
+
+use refused::{every_service_refuses, image_is_refused};
+use second::examples::{chain, faulty, image, largest, stop, version_2};
 use second::services::{check, count, judge, reading, test};
 use second::services::{Checked, Counted, Judged, Read, Tested};
 
@@ -59,6 +62,10 @@ fn refused_images() -> Vec<(u8, u16, Vec<u8>)> {
 fn refusals_of_an_image() {
     for (number, rule, image) in refused_images() {
         image_is_refused((number, rule), &image);
+        if number >= 4 {
+            image_is_refused((number, rule), &version_2(&image, 0));
+            image_is_refused((number, rule), &version_2(&image, 1));
+        }
     }
 }
 
@@ -92,10 +99,17 @@ const RULES_AT_FAULT: [AtFault; 22] = [
     ((7, 300), &[], &[300, 301, 700]),
 ];
 
+/// The version 1 image as it is, and in version 2 with both flags.
+fn in_every_way(image: &[u8]) -> [Vec<u8>; 3] {
+    [image.to_vec(), version_2(image, 0), version_2(image, 1)]
+}
+
 #[test]
 fn first_rule_at_fault() {
-    for (told, unknown, repeated) in RULES_AT_FAULT {
-        image_is_refused(told, &faulty(largest(), unknown, repeated));
+    for image in in_every_way(&largest()) {
+        for (told, unknown, repeated) in RULES_AT_FAULT {
+            image_is_refused(told, &faulty(image.clone(), unknown, repeated));
+        }
     }
 }
 
@@ -104,7 +118,10 @@ fn first_rule_at_fault() {
 fn rules_of_one_kind() {
     let pair_rules = image(2, &[], &[(0, 0, 1), (0, 1, 0), (1, 1, 1)]);
     let event_rules = image(2, &[(0, 5), (0, 6), (1, 5)], &[]);
-    for image in [pair_rules, event_rules] {
+    for image in [pair_rules, event_rules]
+        .iter()
+        .flat_map(|i| in_every_way(i))
+    {
         image_is_refused((6, 0), &faulty(image.clone(), &[0, 2], &[]));
         image_is_refused((6, 2), &faulty(image.clone(), &[2], &[1]));
         image_is_refused((7, 1), &faulty(image.clone(), &[], &[1, 2]));
@@ -117,48 +134,6 @@ fn refusal_8() {
     every_service_refuses((8, 0), &stop(), &[1; 97], 0);
     every_service_refuses((8, 0), &stop(), &[1; 97], 30_000);
     every_service_refuses((8, 0), &stop(), &[1; 1_000], 30_000);
-}
-
-/// Whether or not record and rooms are at fault too.
-fn image_is_refused(told: (u8, u16), image: &[u8]) {
-    let tested = Tested {
-        number: told.0,
-        rule: told.1,
-        ..Tested::default()
-    };
-    assert_eq!(test(image), tested, "{image:?}");
-    every_service_refuses(told, image, &[1], 64);
-    every_service_refuses(told, image, &[1; 97], 0);
-}
-
-/// Refused with this number and rule, zeros elsewhere and nothing written, whatever the room.
-fn every_service_refuses(told: (u8, u16), image: &[u8], events: &[u16], room: usize) {
-    let (number, rule) = told;
-    let (mut chart, mut table, mut script) = (vec![9; room], vec![8; room], vec![7; room]);
-    let judged = Judged {
-        number,
-        rule,
-        ..Judged::default()
-    };
-    let counted = Counted {
-        number,
-        rule,
-        total: 0,
-    };
-    let checked = Checked {
-        number,
-        rule,
-        yes: false,
-    };
-    let read = Read { number, rule };
-    assert_eq!(judge(image, events, &mut chart), judged);
-    assert_eq!(count(image, events, &mut table), counted);
-    assert_eq!(reading(image, events, 0, &mut table, &mut script), read);
-    assert_eq!(check(image, events, &[4, 1]), checked);
-    assert_eq!(
-        (chart, table, script),
-        (vec![9; room], vec![8; room], vec![7; room])
-    );
 }
 
 #[test]
@@ -249,14 +224,16 @@ fn refusals_12_and_13_leave_the_table_filled() {
 }
 
 #[test]
-fn an_empty_record_has_no_reading() {
-    for k in [0, 4_294_967_295] {
-        assert_eq!(reading(&chain(), &[], k, &mut [], &mut []), read(12));
+fn an_empty_record_has_no_reading_without_the_flag() {
+    for image in [chain(), version_2(&chain(), 0)] {
+        for k in [0, 1, 4_294_967_295] {
+            assert_eq!(reading(&image, &[], k, &mut [], &mut []), read(12));
+        }
+        assert_eq!(judge(&image, &[], &mut []), Judged::default());
+        assert_eq!(count(&image, &[], &mut []), Counted::default());
+        assert_eq!(check(&image, &[], &[]), Checked::default());
+        assert_eq!(check(&image, &[], &[0, 1]), Checked::default());
     }
-    assert_eq!(judge(&chain(), &[], &mut []), Judged::default());
-    assert_eq!(count(&chain(), &[], &mut []), Counted::default());
-    assert_eq!(check(&chain(), &[], &[]), Checked::default());
-    assert_eq!(check(&chain(), &[], &[0, 1]), Checked::default());
 }
 
 #[test]

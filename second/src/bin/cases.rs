@@ -2,7 +2,7 @@
 //! run, and a line for each call: a name, and the call's arguments, parted by tabs.
 
 use second::derive::cells;
-use second::examples::{any_image, binary, chain, digits, faulty, image, largest, stop};
+use second::examples::{any_image, binary, chain, digits, faulty, image, largest, stop, version_2};
 use second::listing::{COUNT_BUFFER, MOST_BYTES};
 use second::random::Random;
 use second::services::MOST_EVENTS;
@@ -51,6 +51,9 @@ fn main() -> io::Result<()> {
     totals(&mut cases)?;
     refused_images(&mut cases)?;
     refused_rules(&mut cases)?;
+    flags(&mut cases)?;
+    versions(&mut cases)?;
+    long_images(&mut cases)?;
     event_files(&mut cases)?;
     count_buffer(&mut cases)?;
     large(&mut cases)?;
@@ -110,7 +113,7 @@ fn refused_images(cases: &mut Cases) -> io::Result<()> {
         vec![],
         stop()[..9].to_vec(),
         spoiled(0, b'e'),
-        spoiled(3, 2),
+        spoiled(3, 3),
         spoiled(4, 1),
         spoiled(5, 0),
         spoiled(5, 65),
@@ -163,6 +166,78 @@ fn refused_rules(cases: &mut Cases) -> io::Result<()> {
     Ok(())
 }
 
+/// The empty record and others under both flags, event files that are refused, and other flags.
+fn flags(cases: &mut Cases) -> io::Result<()> {
+    for flag in [0, 1] {
+        let (chain, stop) = (version_2(&chain(), flag), version_2(&stop(), flag));
+        for n in [0, 1, 2, 3, 4, MOST_EVENTS + 1] {
+            let name = format!("CHAIN, flag {flag}, {n} events");
+            cases.record(&name, &chain, &vec![7; n])?;
+        }
+        for events in [&[][..], &[1], &[1, 2, 3]] {
+            cases.record(&format!("STOP, flag {flag}, {events:?}"), &stop, events)?;
+        }
+        cases.pair(&format!("CHAIN, flag {flag}, one byte"), &chain, &[7])?;
+        let wide = version_2(&image(64, &[], &[]), flag);
+        cases.record(&format!("no rules, flag {flag}"), &wide, &[])?;
+    }
+    for flag in [2, 3, 128, 254, 255] {
+        let image = version_2(&chain(), flag);
+        cases.record(&format!("flag {flag}"), &image, &[])?;
+        cases.record(&format!("flag {flag}, one event"), &image, &[7])?;
+        let long = [image, vec![0]].concat();
+        cases.record(&format!("flag {flag}, a byte too many"), &long, &[])?;
+    }
+    Ok(())
+}
+
+/// Images that end at their header or at their flag, images of other versions, one as long as its
+/// version 1 image, and rules at fault after a flag.
+fn versions(cases: &mut Cases) -> io::Result<()> {
+    let header = version_2(&image(1, &[], &[]), 1)[..10].to_vec();
+    cases.record("version 2, 10 bytes, no rules", &header, &[])?;
+    for (place, byte) in [(5, 0), (5, 65), (6, 1), (7, 3), (8, 1), (9, 2)] {
+        let name = format!("byte {place} of version 2 is {byte}");
+        let mut image = header.clone();
+        image[place] = byte;
+        cases.record(&format!("{name}, 10 bytes"), &image, &[])?;
+        image.push(1);
+        cases.record(&format!("{name}, 11 bytes"), &image, &[])?;
+    }
+    for version in [[0, 0], [1, 0], [3, 0], [2, 1], [0, 2], [1, 2], [255, 255]] {
+        let mut image = version_2(&chain(), 1);
+        image[3..5].copy_from_slice(&version);
+        cases.record(&format!("version bytes {version:?}"), &image, &[])?;
+    }
+    let mut short = chain();
+    short[3] = 2;
+    cases.record("version 2 without its flag", &short, &[])?;
+    let image = version_2(&largest(), 1);
+    let (unknown, repeated) = (
+        faulty(image.clone(), &[50], &[]),
+        faulty(image, &[], &[520]),
+    );
+    cases.record("symbol of 50 unknown, version 2", &unknown, &[])?;
+    cases.record("520 repeated, version 2", &repeated, &[])
+}
+
+/// A byte more or less than the largest images have, and many more, of which the first decides.
+fn long_images(cases: &mut Cases) -> io::Result<()> {
+    for (name, image) in [
+        ("version 1", largest()),
+        ("flag 1", version_2(&largest(), 1)),
+        ("flag 2", version_2(&largest(), 2)),
+    ] {
+        let short = &image[..image.len() - 1];
+        cases.record(&format!("largest, {name}, a byte less"), short, &[])?;
+        for more in [1, 2, 3, 65_536, 1_000_000] {
+            let long = [image.clone(), vec![0; more]].concat();
+            cases.record(&format!("largest, {name}, {more} bytes more"), &long, &[])?;
+        }
+    }
+    Ok(())
+}
+
 fn event_files(cases: &mut Cases) -> io::Result<()> {
     let wide = image(64, &[], &[]);
     let shorter = [1, 2, 3, 43, 44, 45, 46, 127, 128, 129, 130];
@@ -204,6 +279,8 @@ fn large(cases: &mut Cases) -> io::Result<()> {
     for n in [0, 1, 2, 3, 22] {
         let events: Vec<u16> = (0..n).map(|place| place % 8).collect();
         cases.record(&format!("largest, {n} events"), &largest(), &events)?;
+        let quiet = version_2(&largest(), 1);
+        cases.record(&format!("largest, flag 1, {n} events"), &quiet, &events)?;
     }
     cases.record("no rules", &image(1, &[], &[]), &[7; 3])?;
     cases.record("no event rules", &image(1, &[], &[(0, 0, 0)]), &[7; 3])?;
@@ -238,17 +315,21 @@ fn absent(cases: &Cases) -> io::Result<()> {
     Ok(())
 }
 
-/// A random grammar of few symbols, sometimes with one byte changed, and a random record.
+/// A random grammar of few symbols in either version, sometimes with one byte changed, and a random
+/// record.
 fn any(cases: &mut Cases, random: &mut Random, at: usize) -> io::Result<()> {
     let symbols = random.within(1, 4);
     let kinds = &[0, 1, 2][..random.within(1, 3)];
     let (event_rules, pair_rules) = (random.within(1, 9), random.within(1, 20));
     let mut image = any_image(random, symbols, kinds, event_rules, pair_rules);
+    if random.once_in(2) {
+        image = version_2(&image, random.below(2) as u8);
+    }
     if random.once_in(4) {
         let place = random.below(image.len());
         image[place] ^= 1 << random.below(8);
     }
-    let n = random.within(1, 10);
+    let n = random.below(11);
     let events: Vec<_> = (0..n).map(|_| random.one_of(kinds)).collect();
     cases.record(&format!("random {at}"), &image, &events)
 }

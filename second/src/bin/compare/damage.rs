@@ -1,5 +1,6 @@
 //! Faults in an image. Some leave it acceptable, and some change nothing by chance.
 
+use second::image::header_bytes;
 use second::random::Random;
 
 /// A kind of fault: its name, and what it does. An image too short for it stays as it is.
@@ -10,7 +11,7 @@ type RuleFault = fn(&mut Random, &mut [u8], usize);
 
 pub const RULE_FAULTS: [RuleFault; 3] = [out_of_range, repeat, swap];
 
-pub const FAULTS: [Fault; 14] = [
+pub const FAULTS: [Fault; 15] = [
     ("cut anywhere", |random, image| {
         let length = random.below(image.len() + 1);
         image.truncate(length);
@@ -35,10 +36,15 @@ pub const FAULTS: [Fault; 14] = [
         let place = random.below(3);
         change(image, place, random.word() as u8);
     }),
-    ("byte of the version", |random, image| {
-        let place = random.within(3, 4);
-        let byte = random.one_of(&[0, 1, 2, 255]);
-        change(image, place, byte);
+    ("version", |random, image| {
+        let [low, high] = random.one_of(&VERSIONS).to_le_bytes();
+        change(image, 3, low);
+        change(image, 4, high);
+    }),
+    ("flag", |random, image| {
+        // In version 1 it is the symbol of the first rule.
+        let byte = random.one_of(&[0, 1, 2, 3, 128, 255]);
+        change(image, 10, byte);
     }),
     ("number of symbols", |random, image| {
         let near = image.get(5).copied().unwrap_or(0);
@@ -73,12 +79,17 @@ pub const FAULTS: [Fault; 14] = [
         in_any_rule(random, image, swap);
     }),
     ("random bytes", |random, image| {
-        // Sometimes the header stays, or the mark and the version.
-        let keep = random.one_of(&[0, 3, 5, 10]).min(image.len());
+        // Sometimes the header stays, with or without a flag, or the mark and the version.
+        let keep = random.one_of(&[0, 3, 5, 10, 11]).min(image.len());
         image.truncate(keep);
         let bytes = random.below(60);
         image.extend((0..bytes).map(|_| random.word() as u8));
     }),
+];
+
+/// Those that there are, and what is near them in one byte or with the bytes swapped.
+const VERSIONS: [u16; 12] = [
+    0, 1, 2, 3, 255, 0x0100, 0x0101, 0x0102, 0x0200, 0x0201, 0x0202, 0xFFFF,
 ];
 
 fn change(image: &mut [u8], place: usize, byte: u8) {
@@ -89,9 +100,10 @@ fn change(image: &mut [u8], place: usize, byte: u8) {
 
 /// In a rule that is in the image whole, if there is one.
 fn in_any_rule(random: &mut Random, image: &mut [u8], fault: RuleFault) {
-    let rules = image.len().saturating_sub(10) / 3;
+    let header = header_bytes(image);
+    let rules = image.len().saturating_sub(header) / 3;
     if rules > 0 {
-        let start = 10 + 3 * random.below(rules);
+        let start = header + 3 * random.below(rules);
         fault(random, image, start);
     }
 }
@@ -103,13 +115,13 @@ fn out_of_range(random: &mut Random, image: &mut [u8], start: usize) {
 }
 
 fn repeat(_: &mut Random, image: &mut [u8], start: usize) {
-    if start > 10 {
+    if start > header_bytes(image) {
         image.copy_within(start - 3..start, start);
     }
 }
 
 fn swap(_: &mut Random, image: &mut [u8], start: usize) {
-    if start > 10 {
+    if start > header_bytes(image) {
         image[start - 3..start + 3].rotate_left(3);
     }
 }

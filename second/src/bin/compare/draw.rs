@@ -1,29 +1,30 @@
-//! Random images, accepted but for those that are just too large or have rules at fault, and
-//! records that meet their rules.
+//! Random images of version 1, accepted but for those that are just too large, have rules at fault
+//! or are a header alone, and records that meet their rules.
 
 use crate::damage::RULE_FAULTS;
 use second::examples::{any_image, any_symbol, binary, chain, digits, image, stop};
-use second::image::decode;
+use second::image::{decode, header_bytes};
 use second::random::Random;
 use second::services::MOST_EVENTS;
 use std::collections::BTreeSet;
 
 /// An image and a record.
-type Drawn = (Vec<u8>, Vec<u16>);
+pub type Drawn = (Vec<u8>, Vec<u16>);
 
 /// A name, how many of a thousand cases are of this kind, and how one is drawn.
 type Kind = (&'static str, usize, fn(&mut Random) -> Drawn);
 
-pub const KINDS: [Kind; 11] = [
+pub const KINDS: [Kind; 12] = [
     ("chain", 40, chain_case),
     ("stop", 30, stop_case),
     ("binary", 100, binary_case),
     ("product", 50, product_case),
-    ("dense", 315, dense_case),
-    ("sparse", 315, sparse_case),
+    ("dense", 300, dense_case),
+    ("sparse", 300, sparse_case),
     ("wide", 86, wide_case),
     ("faulty", 30, faulty_case),
     ("limits", 20, limits_case),
+    ("header", 30, header_case),
     ("long", 13, long_case),
     ("largest", 1, largest_case),
 ];
@@ -164,7 +165,8 @@ fn faulty_case(random: &mut Random) -> Drawn {
             _ => random.below(end.max(1)),
         };
         if rule < end {
-            random.one_of(&RULE_FAULTS)(random, &mut image, 10 + 3 * rule);
+            let start = header_bytes(&image) + 3 * rule;
+            random.one_of(&RULE_FAULTS)(random, &mut image, start);
         }
     }
     (image, events)
@@ -187,6 +189,20 @@ fn limits_case(random: &mut Random) -> Drawn {
     let pair_rules = random.one_of(&[255, 256, 256, 256, 257]);
     let n = random.below(6);
     full_case(random, symbols, event_rules, pair_rules, n)
+}
+
+/// Ten bytes, whatever numbers of rules they name; half of them claim to be version 2, which has one
+/// more. An empty record often, since an image without rules admits no other.
+fn header_case(random: &mut Random) -> Drawn {
+    let symbols = random.one_of(&[0, 1, 1, 1, 64, 65]);
+    let event_rules: u16 = random.one_of(&[0, 0, 0, 0, 1, 512, 513]);
+    let pair_rules: u16 = random.one_of(&[0, 0, 0, 0, 1, 256, 257]);
+    let mut image = image(symbols, &[], &[]);
+    image[3] = random.one_of(&[1, 2]);
+    image[6..8].copy_from_slice(&event_rules.to_le_bytes());
+    image[8..10].copy_from_slice(&pair_rules.to_le_bytes());
+    let n = random.below(2);
+    (image, vec![7; n])
 }
 
 /// As much of everything as there may be.

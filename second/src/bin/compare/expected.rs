@@ -2,7 +2,9 @@
 
 use crate::damage::FAULTS;
 use crate::draw::KINDS;
-use crate::remarks::REMARKS;
+use crate::layouts::OF_LAYOUTS;
+use crate::quiet;
+use crate::remarks::{names, OF_RULES};
 use crate::scripts::CHANGES;
 
 /// The numbers of each service.
@@ -43,7 +45,7 @@ const OTHERS: [&str; 22] = [
     "true total: 4294967295",
     "true total: 4294967296",
     "true total: above 64 bits",
-    "empty record",
+    "every flag",
     "largest image and record",
 ];
 
@@ -52,10 +54,11 @@ pub fn expected() -> Vec<String> {
     let mut all = Vec::new();
     for (service, numbers) in NUMBERS {
         all.extend(numbers.iter().map(|n| format!("{service}: number {n}")));
-        for (remark, numbers, _) in REMARKS {
+        for (remark, numbers) in [names(&OF_LAYOUTS), names(&OF_RULES)].concat() {
             let lines = numbers.iter();
             all.extend(lines.map(|n| format!("{service}: number {n}, {remark}")));
         }
+        all.extend([0, 1].map(|flag| format!("{service}: twin with flag {flag}")));
     }
     for (service, _) in &NUMBERS[1..] {
         all.extend(LENGTHS.map(|(n, number)| format!("{service}: {n} events, number {number}")));
@@ -68,6 +71,7 @@ pub fn expected() -> Vec<String> {
     all.extend(FAULTS.map(|(name, _)| format!("damage: {name}")));
     let spoiled = CHANGES[1..].iter();
     all.extend(spoiled.map(|(name, _)| format!("check: no: {name}")));
+    all.extend(quiet::expected());
     all.extend(OTHERS.map(str::to_string));
     all
 }

@@ -1,27 +1,32 @@
 //! compare [--seed S] [--case I] [N]: the proved reader beside this one in N random cases, or in
 //! case I alone. A case is one image and one record through all five services. Both sides must
-//! agree in every answer and in every word, lent or not. Stops at the first difference.
+//! agree in every answer and in every word, lent or not, and the proved reader with itself if a
+//! version 1 image is replaced by its twin of version 2. Stops at the first difference.
 
 mod damage;
 mod draw;
 mod expected;
+mod layouts;
 mod lent;
 mod plan;
+mod quiet;
 mod remarks;
 mod scripts;
 mod setting;
 mod sides;
 mod tally;
+mod versions;
 
 use damage::FAULTS;
 use plan::{Plan, Step};
 use remarks::remarks;
 use second::random::Random;
 use second::services::MOST_EVENTS;
-use setting::Call;
-use sides::{Answer, PROVED, SECOND};
+use setting::{Call, Setting};
+use sides::{Answer, Side, PROVED, SECOND};
 use std::process::ExitCode;
 use tally::Tally;
+use versions::{in_any_version, twin};
 
 /// In so many cases everything that is expected must occur.
 const ENOUGH: u64 = 20_000;
@@ -87,32 +92,69 @@ fn compare(seed: u64, case: u64, tally: &mut Tally) -> Result<(), String> {
     let mut random = Random::new(Random::new(seed).word() ^ case);
     let (name, _, draw) = draw::any_kind(&mut random);
     tally.add(format!("kind: {name}"));
-    let (mut image, events) = draw(&mut random);
+    let drawn = draw(&mut random);
+    let (mut image, events) = in_any_version(&mut random, drawn);
     for _ in 0..random.one_of(&[0, 0, 0, 0, 0, 0, 1, 1, 2, 3]) {
         let (name, fault) = random.one_of(&FAULTS);
         tally.add(format!("damage: {name}"));
         fault(&mut random, &mut image);
     }
     for step in Plan::new(&mut random, tally, &image, &events).steps() {
-        let answer = compare_step(&step)?;
-        note(tally, &step, answer);
+        let second = called(&SECOND, &step.setting);
+        compare_step(&step, &second)?;
+        if let Some((flag, twin)) = twin(&mut random, &step.setting) {
+            tally.add(format!("{}: twin with flag {flag}", twin.service()));
+            compare_twin(&twin, &second)?;
+        }
+        note(tally, &step, second.answer);
     }
     Ok(())
 }
 
-/// The answer of both, or what they don't agree in.
-fn compare_step(step: &Step) -> Result<Answer, String> {
-    let (mut proved, mut second) = (step.setting.clone(), step.setting.clone());
-    let answers = [proved.answer(&PROVED), second.answer(&SECOND)];
-    if answers[0] == answers[1] && proved == second {
-        return Ok(answers[1]);
+/// How a call ended.
+struct Called {
+    answer: Answer,
+    /// What was lent, as the call left it.
+    setting: Setting,
+}
+
+fn called(side: &Side, setting: &Setting) -> Called {
+    let mut setting = setting.clone();
+    let answer = setting.answer(side);
+    Called { answer, setting }
+}
+
+/// Both sides must agree.
+fn compare_step(step: &Step, second: &Called) -> Result<(), String> {
+    let proved = called(&PROVED, &step.setting);
+    agree(&step.setting, [("proved", &proved), ("second", second)])
+}
+
+/// The proved side must end with the twin as both sides did with the version 1 image.
+fn compare_twin(twin: &Setting, second: &Called) -> Result<(), String> {
+    let proved = called(&PROVED, twin);
+    let setting = Setting {
+        image: twin.image.clone(),
+        ..second.setting.clone()
+    };
+    let answer = second.answer;
+    let version_1 = Called { answer, setting };
+    agree(twin, [("version 2", &proved), ("version 1", &version_1)])
+}
+
+/// An error if two calls that were lent the same don't end alike, and in what.
+fn agree(lent: &Setting, [one, other]: [(&str, &Called); 2]) -> Result<(), String> {
+    let ((one_name, one), (other_name, other)) = (one, other);
+    if one.answer == other.answer && one.setting == other.setting {
+        return Ok(());
     }
-    let word = proved.difference(&second).unwrap_or("none".to_string());
+    let word = one.setting.difference(&other.setting);
     Err(format!(
-        "{}\nthe proved answer: {:?}\nthe second answer: {:?}\nfirst different word: {word}",
-        step.setting.describe(),
-        answers[0],
-        answers[1],
+        "{}\nthe {one_name} answer: {:?}\nthe {other_name} answer: {:?}\nfirst different word: {}",
+        lent.describe(),
+        one.answer,
+        other.answer,
+        word.unwrap_or("none".to_string()),
     ))
 }
 
@@ -134,6 +176,9 @@ fn note(tally: &mut Tally, step: &Step, answer: Answer) {
         tally.add(format!("{service}: number {number}, {remark}"));
     }
     note_length(tally, step, number);
+    if let Some(line) = quiet::line(&step.setting, &answer) {
+        tally.add(line);
+    }
     match step.setting.call {
         Call::Reading { k, .. } if k >= 4_294_967_294 && [0, 12, 13].contains(&number) => {
             tally.add(format!("reading: k = {k}, number {number}"));

@@ -6,7 +6,7 @@ use crate::scripts::{another_record, any_reading, of_another_symbol, random_word
 use crate::setting::{Call, Setting};
 use crate::tally::Tally;
 use second::derive::cells;
-use second::image::{decode, Grammar};
+use second::image::{decode, header_bytes, Grammar};
 use second::random::Random;
 use second::readings::{cut, Readings};
 use second::services::MOST_EVENTS;
@@ -72,6 +72,24 @@ impl<'a> Plan<'a> {
                 steps.push(self.random_words());
             }
         }
+        let has_flag = header_bytes(self.image) == 11 && self.image.len() >= 11;
+        if has_flag && self.random.once_in(50) {
+            steps.extend(self.every_flag());
+        }
+        steps
+    }
+
+    /// The test of a version 2 image with each flag.
+    fn every_flag(&mut self) -> Vec<Step> {
+        self.tally.add("every flag");
+        let mut image = self.image.to_vec();
+        let mut steps = Vec::new();
+        for flag in 0..=255 {
+            image[10] = flag;
+            let mut step = self.step(Call::Test);
+            step.setting.image = Lent::holding(self.random, &image);
+            steps.push(step);
+        }
         steps
     }
 
@@ -135,9 +153,6 @@ impl<'a> Plan<'a> {
         if (self.n, grammar.symbols, rules) == (MOST_EVENTS, 64, (512, 256)) {
             self.tally.add("largest image and record");
         }
-        if self.n == 0 {
-            self.tally.add("empty record");
-        }
         let near = 4_294_967_294..=4_294_967_296;
         if near.contains(&total) {
             self.tally.add(format!("true total: {total}"));
@@ -148,12 +163,13 @@ impl<'a> Plan<'a> {
 
     /// Both ends, around the last number that there can be, and any.
     fn any_k(&mut self, total: u32) -> u32 {
-        match self.random.below(8) {
+        match self.random.below(9) {
             0 => 0,
             1 => total.saturating_sub(1),
             2 => total,
-            3 => u32::MAX - self.random.below(3) as u32,
-            4 => self.random.word() as u32,
+            3 => total.saturating_add(1),
+            4 => u32::MAX - self.random.below(3) as u32,
+            5 => self.random.word() as u32,
             _ => self.random.below(total.max(1) as usize) as u32,
         }
     }
@@ -165,7 +181,8 @@ impl<'a> Plan<'a> {
             let script = of_another_symbol(self.random, grammar, self.events, readings)?;
             return Some(self.check(&script, "of another symbol"));
         }
-        if readings.total() == 0 {
+        // Of the empty script nothing can be changed.
+        if readings.total() == 0 || self.events.is_empty() {
             return None;
         }
         let mut script = any_reading(self.random, readings);

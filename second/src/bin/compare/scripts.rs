@@ -64,8 +64,11 @@ pub fn of_another_symbol(
     Some(readings.unranked(a, 0, events.len(), number as u128))
 }
 
-/// The record with one event changed, perhaps to one that the rules know.
+/// The record with one event changed, perhaps to one that the rules know, or an empty record.
 pub fn another_record(random: &mut Random, events: &[u16]) -> Vec<u16> {
+    if random.once_in(8) {
+        return Vec::new();
+    }
     let mut events = events.to_vec();
     let place = random.below(events.len());
     events[place] = random.one_of(&events).wrapping_add(random.below(2) as u16);

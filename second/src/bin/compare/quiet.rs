@@ -1,0 +1,55 @@
+//! What services say of an empty record.
+
+use crate::setting::{Call, Setting};
+use crate::sides::Answer;
+use second::image::{decode, header_bytes};
+
+/// The tally's line for a call with an empty record and an accepted image; nothing if it is the
+/// test, or a reading whose number is nothing special.
+pub fn line(setting: &Setting, answer: &Answer) -> Option<String> {
+    let image = setting.image.slice();
+    let grammar = decode(image).ok()?;
+    if !setting.events.slice().is_empty() {
+        return None;
+    }
+    let image = match (header_bytes(image), grammar.admits_empty) {
+        (10, _) => "version 1",
+        (_, false) => "flag 0",
+        (_, true) => "flag 1",
+    };
+    let said = match &setting.call {
+        Call::Judge { .. } => format!("admitted {}", answer.rest[0]),
+        Call::Count { .. } => format!("total {}", answer.rest[0]),
+        Call::Reading { k, .. } if [0, 1, u32::MAX].contains(k) => {
+            format!("k = {k}, number {}", answer.number)
+        }
+        Call::Check { script } if script.slice().is_empty() => {
+            format!("empty script {}", answer.rest[0])
+        }
+        Call::Check { .. } => format!("other words {}", answer.rest[0]),
+        _ => return None,
+    };
+    Some(told(image, setting.service(), &said))
+}
+
+fn told(image: &str, service: &str, said: &str) -> String {
+    format!("empty record, {image}: {service}: {said}")
+}
+
+/// Every line that the tally must have.
+pub fn expected() -> Vec<String> {
+    let mut all = Vec::new();
+    for (image, readings) in [("version 1", 0), ("flag 0", 0), ("flag 1", 1)] {
+        let reading_0 = [12, 0][readings];
+        all.extend([
+            told(image, "judge", &format!("admitted {readings}")),
+            told(image, "count", &format!("total {readings}")),
+            told(image, "reading", &format!("k = 0, number {reading_0}")),
+            told(image, "reading", "k = 1, number 12"),
+            told(image, "reading", "k = 4294967295, number 12"),
+            told(image, "check", &format!("empty script {readings}")),
+            told(image, "check", "other words 0"),
+        ]);
+    }
+    all
+}
