@@ -1,14 +1,13 @@
 -- `readings` holds exactly the readings, in the order of their scripts; and what it is of an empty record, and of one with events.
 -- Assumes nothing.
 use mathlib.Core.Path.{_≡_, refl, sym, ap, _∙_, subst⁻¹}
-use mathlib.Core.Bool.{Bool, true, false, _&&_}
 use mathlib.Core.Logic.{⊎-elim}
 use mathlib.Core.List.{List, [], _∷_, _++_, map, List·Memᴰ·head, List·Memᴰ·not-nil, List·Memᴰ·append-cases, List·Memᴰ·eq-of-singleton, Memᴰ·append-left, Memᴰ·append-right}
 use Prim.Native.Nat.{ℕ, _+_, _*_, _≤_, _<_}
 use native.Mathlib.Nat.{sub-zero}
 use native.Mathlib.Omega.{arith}
 use native.Mathlib.Decide.{ℕ-discrete}
-use lib.Dec.{T, eqb, eqb→eq}
+use lib.Dec.{T, eqb→eq}
 use lib.ListN.{length, getD, length-append, length-map}
 use Rattle.bits.specs.Truth.{same}
 use Rattle.bits.proofs.Truths.{same-eq, same-other}
@@ -16,7 +15,7 @@ use Rattle.derivation.specs.Grammar.{Grammar}
 use Rattle.derivation.specs.Order.{Before}
 use Rattle.derivation.specs.Tree.{Tree, Derives, Derivable, script, scriptWords, Spells}
 use Rattle.derivation.specs.Reading.{Reading, quiet, derived, Reads, Admitted, spelling, IsReading}
-use Rattle.derivation.specs.Derivations.{gate, trees, derivations, readings, count}
+use Rattle.derivation.specs.Derivations.{gate, trees, derivations, quietFits, readings, count}
 use Rattle.derivation.specs.Numbering.{none}
 use Rattle.derivation.proofs.Lists.{_∈_, eq→eqb, both, first, second, truth-and, truth-eqb, gate-of, gate-yes, gate-no, length-gate, map-of, in-map, map-at, in-getD, no-length}
 use Rattle.derivation.proofs.Orders.{rising-append, rising-gate, rising-map, Rising}
@@ -25,51 +24,50 @@ use Rattle.derivation.proofs.Rising.{Earlier, derivations-rising}
 use Rattle.derivation.proofs.Scripts.{script-length}
 
 module _ (g : Grammar) (w : List ℕ) where
-  abbrev test : Bool
-  test = eqb (g .quiet) 1 && eqb (length w) 0
-
   abbrev trees-of : List Tree
   trees-of = derivations g w 0 0 (length w)
 
   -- ---- the elements
+  fits-quiet : T (quietFits g w) → Reads g w quiet
+  fits-quiet t = search (first, second, eqb→eq)
+
+  quiet-fits : Reads g w quiet → T (quietFits g w)
+  quiet-fits d = search (both, eq→eqb)
+
   pub readings-sound : (r : Reading) → r ∈ readings g w → Reads g w r
   unfolding readings
   readings-sound r m =
       ⊎-elim
-      (λ a.
-      let q = gate-of test (quiet ∷ []) a in
-      subst⁻¹ (Reads g w) (List·Memᴰ·eq-of-singleton (q .1))
-      (eqb→eq (g .quiet) 1 (first (eqb (g .quiet) 1) (eqb (length w) 0) (q .0)), eqb→eq (length w) 0 (second (eqb (g .quiet) 1) (eqb (length w) 0) (q .0))))
+      (λ a. let q = gate-of (quietFits g w) (quiet ∷ []) a in subst⁻¹ (Reads g w) (List·Memᴰ·eq-of-singleton (q .1)) (fits-quiet (q .0)))
       (λ a. let q = map-of derived trees-of a in subst⁻¹ (Reads g w) (q .2) (derivations-sound g w 0 0 (length w) (q .1)))
-      (List·Memᴰ·append-cases (gate test (quiet ∷ [])) m)
+      (List·Memᴰ·append-cases (gate (quietFits g w) (quiet ∷ [])) m)
 
   pub readings-complete : (r : Reading) → Reads g w r → r ∈ readings g w
   unfolding readings
   readings-complete quiet d =
-      let t = both (eqb (g .quiet) 1) (eqb (length w) 0) (eq→eqb (g .quiet) 1 (d .0)) (eq→eqb (length w) 0 (d .1)) in
-      let m : quiet ∈ gate test (quiet ∷ []) = rw (gate-yes test (quiet ∷ []) t) (List·Memᴰ·head refl) in
+      let m : quiet ∈ gate (quietFits g w) (quiet ∷ []) = rw (gate-yes (quietFits g w) (quiet ∷ []) (quiet-fits d)) (List·Memᴰ·head refl) in
       Memᴰ·append-left (map derived trees-of) m
   readings-complete (derived t) d =
-      Memᴰ·append-right (gate test (quiet ∷ [])) (in-map derived (derivations-complete g w 0 0 (length w) t d))
+      Memᴰ·append-right (gate (quietFits g w) (quiet ∷ [])) (in-map derived (derivations-complete g w 0 0 (length w) t d))
 
   -- ---- their order: an empty record has no derivation, so nothing stands behind the quiet reading
-  abbrev Before′ : Reading → Reading → Type 0
-  Before′ r s = Before (spelling r) (spelling s)
+  abbrev Precedes : Reading → Reading → Type 0
+  Precedes r s = Before (spelling r) (spelling s)
 
-  keeps : (t u : Tree) → Earlier t u → Before′ (derived t) (derived u)
+  keeps : (t u : Tree) → Earlier t u → Precedes (derived t) (derived u)
   unfolding spelling
   keeps t u e = e
 
-  pub readings-rising : Rising Before′ (readings g w)
+  pub readings-rising : Rising Precedes (readings g w)
   unfolding readings
   readings-rising =
-      rising-append Before′ (gate test (quiet ∷ [])) (map derived trees-of)
-      (rising-gate Before′ test (quiet ∷ []) (λ y m. absurd (List·Memᴰ·not-nil m), tt))
-      (rising-map Earlier Before′ derived keeps trees-of (derivations-rising g w 0 0 (length w)))
+      rising-append Precedes (gate (quietFits g w) (quiet ∷ [])) (map derived trees-of)
+      (rising-gate Precedes (quietFits g w) (quiet ∷ []) (λ y m. absurd (List·Memᴰ·not-nil m), tt))
+      (rising-map Earlier Precedes derived keeps trees-of (derivations-rising g w 0 0 (length w)))
       (λ x y m n.
-      let a = second (eqb (g .quiet) 1) (eqb (length w) 0) (gate-of test (quiet ∷ []) m .0) in
+      let a = fits-quiet (gate-of (quietFits g w) (quiet ∷ []) m .0) in
       let b = map-of derived trees-of n in
-      absurd (omega (arith, eqb→eq (length w) 0 a, some-events g w 0 0 (length w) (b .0) (derivations-sound g w 0 0 (length w) (b .1)))))
+      absurd (omega (arith, a .1, some-events g w 0 0 (length w) (b .0) (derivations-sound g w 0 0 (length w) (b .1)))))
 
   -- ---- how long a script is: 2 (2 n - 1) words, and none for an empty record
   pub spelling-length : (r : Reading) → Reads g w r → length (spelling r) ≡ scriptWords (length w)
@@ -84,7 +82,7 @@ module _ (g : Grammar) (w : List ℕ) where
   module _ (some : 0 < length w) where
     by-rules : readings g w ≡ map derived trees-of
     unfolding readings
-    by-rules = rw (gate-no test (quiet ∷ []) (λ t. omega (arith, eqb→eq (length w) 0 (second (eqb (g .quiet) 1) (eqb (length w) 0) t))))
+    by-rules = rw (gate-no (quietFits g w) (quiet ∷ []) (λ t. omega (arith, fits-quiet t .1)))
 
     pub count-events : length (readings g w) ≡ count g w 0 0 (length w)
     unfolding count

@@ -66,9 +66,15 @@ trees g w (suc f) A i k = level g w (λ B x y. trees g w f B x y) A i k
 unfoldable pub derivations : Grammar → List ℕ → ℕ → ℕ → ℕ → List Tree
 derivations g w A i k = trees g w (k - i) A i k
 
+-- ---- readings
+
+-- the flag is 1, and the record is empty
+abbrev pub quietFits : Grammar → List ℕ → Bool
+quietFits g w = eqb (g .quiet) 1 && eqb (length w) 0
+
 -- the readings, reading 0 first, and their scripts
 unfoldable pub readings : Grammar → List ℕ → List Reading
-readings g w = gate (eqb (g .quiet) 1 && eqb (length w) 0) (quiet ∷ []) ++ map derived (derivations g w 0 0 (length w))
+readings g w = gate (quietFits g w) (quiet ∷ []) ++ map derived (derivations g w 0 0 (length w))
 
 unfoldable pub scripts : Grammar → List ℕ → List (List ℕ)
 scripts g w = map spelling (readings g w)
