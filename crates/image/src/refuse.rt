@@ -40,7 +40,10 @@ fn versioned(image: &[u8]) -> bool
     if version == 1 {
         return true;
     }
-    version == 2
+    if version == 2 {
+        return true;
+    }
+    false
 }
 
 fn ranged(image: &[u8]) -> bool

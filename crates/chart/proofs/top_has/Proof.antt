@@ -15,7 +15,7 @@ quiet-flag-requires c κs = search needs
 
 returns : tie.Need-returns
 returns c = record {
-  empty = λ _. decides-eq _ 1 (c .quiet-flag .ensures .0);
+  empty = λ _. decides-eq _ _ (c .quiet-flag .ensures .0);
   events = λ l. absurd (omega (arith, c .before .if1 .taken));
 }
 
@@ -30,7 +30,7 @@ bit-of-requires c κs = search needs
 returns-2 : tie.Need-returns-2
 returns-2 c = record {
   empty = λ e. absurd (c .before .before .if1 .left e);
-  events = λ _. decides-eq _ 1 (c .bit-of .ensures ∙ ap (λ (x : ℕ). bit x 0) (c .before .read-cell .ensures));
+  events = λ _. decides-eq _ _ (c .bit-of .ensures ∙ ap (λ (x : ℕ). bit x 0) (c .before .read-cell .ensures));
 }
 
 pub top-has-spec : {M : Type 1} → statement M
