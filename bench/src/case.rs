@@ -1,7 +1,7 @@
 //! A call whose outcome is known, and the comparison of both sides in it.
 
 use crate::answers::Refusal;
-use crate::grammars::stop;
+use crate::grammars::{flagged, stop};
 use crate::records::{Input, Words};
 use std::fmt::Debug;
 
@@ -118,10 +118,14 @@ pub fn at_fault<A: From<Refusal>>() -> Vec<Case<A>> {
     let faults = [
         (1, 0, stop()[..9].to_vec(), 3),
         (2, 0, spoiled(2, b'X'), 3),
+        (3, 0, spoiled(3, 3), 3),
         (3, 0, spoiled(4, 1), 3),
         (4, 0, spoiled(5, 65), 3),
+        (4, 0, flagged(&stop(), 2), 3),
         (5, 0, [stop(), vec![0]].concat(), 3),
+        (5, 0, flagged(&stop(), 1)[..10].to_vec(), 3),
         (6, 6, spoiled(30, 6), 3),
+        (6, 6, flagged(&spoiled(30, 6), 1), 3),
         (7, 1, twice, 3),
         (8, 0, stop(), 97),
     ];

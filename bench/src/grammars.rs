@@ -21,6 +21,14 @@ pub fn image(symbols: u8, leaves: &[(u8, u16)], pairs: &[[u8; 3]]) -> Vec<u8> {
     image
 }
 
+/// The same grammar in version 2.
+pub fn flagged(image: &[u8], flag: u8) -> Vec<u8> {
+    let (header, rules) = image.split_at(10);
+    let mut image = [header, &[flag], rules].concat();
+    image[3] = 2;
+    image
+}
+
 /// The largest grammar: 64 symbols that each turn into events 0 to 7, and four pair rules for each.
 /// Over events 0 to 7 every cell is full; `left` says how the rules share left symbols.
 pub fn largest(left: fn(u32, u32) -> u32) -> Vec<u8> {

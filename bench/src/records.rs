@@ -1,6 +1,6 @@
 //! What the services are called with: images, and the events that are read by them.
 
-use crate::grammars::{any_half, chain, largest, mixed, stop, two_chains};
+use crate::grammars::{any_half, chain, flagged, largest, mixed, stop, two_chains};
 use crate::plain;
 use crate::random::Random;
 use crate::sizes::{cells, script_words};
@@ -93,6 +93,11 @@ pub fn short() -> Input {
 
 pub fn sevens(count: usize) -> Input {
     Input::new("CHAIN", chain(), &vec![7; count])
+}
+
+/// No events, and CHAIN with a flag.
+pub fn quiet(flag: u8) -> Input {
+    Input::new("flagged CHAIN", flagged(&chain(), flag), &[])
 }
 
 /// As many sevens as eights.

@@ -11,10 +11,14 @@ pub fn check(image: &[u8], events: &[u16], script: &[u16]) -> Checked {
         Err(refusal) => return Checked::from(refusal),
     };
     let n = events.len();
-    let fits = n > 0 && script.len() == script_words(n);
+    let fits = script.len() == script_words(n);
+    let follows = || match n {
+        0 => grammar.quiet,
+        _ => follows(&grammar, events, 0, 0, script),
+    };
     Checked {
         refusal: 0.into(),
-        yes: fits && follows(&grammar, events, 0, 0, script),
+        yes: fits && follows(),
     }
 }
 

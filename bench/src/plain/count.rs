@@ -39,7 +39,7 @@ pub fn fill(grammar: &Grammar, events: &[u16], table: &mut [u32]) -> u32 {
         }
     }
     match events.len() {
-        0 => 0,
+        0 => grammar.quiet as u32,
         n => table[cell(0, n) * grammar.symbols],
     }
 }

@@ -33,7 +33,10 @@ pub fn judge(image: &[u8], events: &[u16], chart: &mut [u64]) -> Judged {
     let used = &chart[..cells(n)];
     Judged {
         refusal: 0.into(),
-        admitted: n > 0 && chart[cell(0, n)] & 1 == 1,
+        admitted: match n {
+            0 => grammar.quiet,
+            n => chart[cell(0, n)] & 1 == 1,
+        },
         items: used.iter().map(|w| w.count_ones() as u64).sum(),
         firings,
     }

@@ -14,9 +14,11 @@ pub use reading::reading;
 use crate::answers::Refusal;
 use crate::sizes::MOST_EVENTS;
 
-/// An accepted image: its number of symbols and its rules, three bytes each.
+/// An accepted image: its number of symbols, its rules, three bytes each, and whether it admits the
+/// empty record.
 struct Grammar<'a> {
     symbols: usize,
+    quiet: bool,
     leaves: &'a [u8],
     pairs: &'a [u8],
 }
@@ -37,19 +39,24 @@ fn test_image(image: &[u8]) -> Result<Grammar<'_>, Refusal> {
     if &image[..3] != b"ESG" {
         return Err(2.into());
     }
-    if low_first(image, 3) != 1 {
+    let version = low_first(image, 3);
+    if !(1..=2).contains(&version) {
         return Err(3.into());
     }
     let symbols = image[5];
     let leaves = low_first(image, 6) as usize;
     let pairs = low_first(image, 8) as usize;
-    if !(1..=64).contains(&symbols) || leaves > 512 || pairs > 256 {
+    let (flag, header) = match version {
+        1 => (0, 10),
+        _ => (image.get(10).copied().unwrap_or(0), 11),
+    };
+    if !(1..=64).contains(&symbols) || leaves > 512 || pairs > 256 || flag > 1 {
         return Err(4.into());
     }
-    if image.len() != 10 + 3 * (leaves + pairs) {
+    if image.len() != header + 3 * (leaves + pairs) {
         return Err(5.into());
     }
-    let (leaves, pairs) = image[10..].split_at(3 * leaves);
+    let (leaves, pairs) = image[header..].split_at(3 * leaves);
     if let Some(rule) = first_unfit(leaves, pairs, symbols) {
         return Err(Refusal { number: 6, rule });
     }
@@ -58,6 +65,7 @@ fn test_image(image: &[u8]) -> Result<Grammar<'_>, Refusal> {
     }
     Ok(Grammar {
         symbols: symbols as usize,
+        quiet: flag == 1,
         leaves,
         pairs,
     })

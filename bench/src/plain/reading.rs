@@ -37,6 +37,9 @@ fn read_or_refuse(
         let number = if total as u64 == LIMIT { 13 } else { 12 };
         return Err(number.into());
     }
+    if events.is_empty() {
+        return Ok(());
+    }
     let source = Source {
         grammar,
         events,

@@ -54,7 +54,7 @@ fn others() -> Vec<Case<Checked>> {
         (3, &[1, 1, 0, 1, 1, 2, 0, 2, 0, 3, 0], false),
         (3, &[1, 1, 0, 1, 0, 2], false),
         (3, &[], false),
-        // An empty record has no reading.
+        // An empty record has no reading where no flag says so.
         (0, &[], false),
         (0, &[0, 1], false),
         // A split at an end of the stretch, a leaf's place, a rule of the other kind, and of none.
@@ -71,6 +71,15 @@ fn others() -> Vec<Case<Checked>> {
     };
     let mut cases = at_fault();
     cases.extend(scripts.map(case));
+    let quiet = [
+        (1, vec![], true),
+        (1, vec![0, 1], false),
+        (0, vec![], false),
+    ];
+    cases.extend(quiet.map(|(flag, script, yes)| {
+        let input = records::quiet(flag);
+        checked(Input { script, ..input }, yes)
+    }));
     cases
 }
 

@@ -62,6 +62,7 @@ fn others() -> Vec<Case<Counted>> {
     ];
     let mut cases = at_fault();
     cases.extend(rows.map(|(events, total)| chain(events, total)));
+    cases.extend([0, 1].map(|flag| counted(records::quiet(flag), flag as u64, 0)));
     cases.push(two_chains());
     cases.push(short_of_table());
     cases

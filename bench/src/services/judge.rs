@@ -17,7 +17,7 @@ pub fn run(rounds: usize) {
     let side = |judge: Judge| {
         move |input: &Input, lent: &mut Lent| judge(&input.image, &input.events, &mut lent.chart)
     };
-    compare_and_time(SIDES.map(side), timed(), refusals(), splits, rounds);
+    compare_and_time(SIDES.map(side), timed(), others(), splits, rounds);
 }
 
 /// What is told of a record: the verdict, the items and the firings.
@@ -75,7 +75,8 @@ fn judged(input: Input, (admitted, items, firings): Told) -> Case<Judged> {
     Case::new(input, written, told).knowing(move |lent| ones(&lent.chart[..chart]) == items)
 }
 
-fn refusals() -> Vec<Case<Judged>> {
+/// Empty records and refusals.
+fn others() -> Vec<Case<Judged>> {
     let input = records::stops();
     let chart = input.needs().chart - 1;
     let room = Words {
@@ -84,5 +85,11 @@ fn refusals() -> Vec<Case<Judged>> {
     };
     let mut cases = at_fault();
     cases.push(Case::refused(input, 9).with_room(room));
+    let no_events = [
+        (records::sevens(0), false),
+        (records::quiet(0), false),
+        (records::quiet(1), true),
+    ];
+    cases.extend(no_events.map(|(input, admitted)| judged(input, (admitted, 0, 0))));
     cases
 }
