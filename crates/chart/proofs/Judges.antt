@@ -43,7 +43,7 @@ module _ (g : Grammar) (ok : Sound g) (w c₀ c : List ℕ) (m : ℕ) (whole : C
   verdict ok t = ⊎-elim
       (λ (s : 0 < length w).
       let e = chart-shows g w c₀ c m whole 0 0 (length w) s (le-refl (length w)) in
-      decides-as ok (λ h. admitted-of g w s (of-known g w 0 0 (length w) (sym e ∙ h))) (λ d. e ∙ known-of g w 0 0 (length w) (of-admitted g w s d)) (t .events s))
+      decides-as ok (λ h. admitted-of g w (of-known g w 0 0 (length w) (sym e ∙ h))) (λ d. e ∙ known-of g w 0 0 (length w) (of-admitted g w s d)) (t .events s))
       (λ (s : length w ≤ 0). let z : length w ≡ 0 = omega arith in decides-as ok (admitted-quiet g w z) (quiet-admitted g w z) (t .empty z))
       (lt-or-ge 0 (length w))
 

@@ -1,7 +1,7 @@
 -- `derivations` numbers the derivations of [A, i, k] and `readings` the readings, and no other list does; `known` tells whether there is
 -- a derivation, and no other number does.
 -- Assumes nothing.
-use mathlib.Core.Path.{_≡_, refl, sym, subst, _∙_}
+use mathlib.Core.Path.{_≡_, sym, subst, _∙_}
 use mathlib.Core.List.{List, [], _∷_}
 use Prim.Native.Nat.{ℕ, suc, _<_}
 use native.Mathlib.Nat.{zero-lt-suc}

@@ -2,7 +2,7 @@
 -- Assumes nothing.
 use mathlib.Core.Path.{_≡_, refl, sym, ap, _∙_, subst⁻¹}
 use mathlib.Core.Logic.{⊎-elim}
-use mathlib.Core.List.{List, [], _∷_, _++_, map, List·Memᴰ·head, List·Memᴰ·not-nil, List·Memᴰ·append-cases, List·Memᴰ·eq-of-singleton, Memᴰ·append-left, Memᴰ·append-right}
+use mathlib.Core.List.{List, [], _∷_, map, List·Memᴰ·head, List·Memᴰ·not-nil, List·Memᴰ·append-cases, List·Memᴰ·eq-of-singleton, Memᴰ·append-left, Memᴰ·append-right}
 use Prim.Native.Nat.{ℕ, _+_, _*_, _≤_, _<_}
 use native.Mathlib.Nat.{sub-zero}
 use native.Mathlib.Omega.{arith}
@@ -78,30 +78,33 @@ module _ (g : Grammar) (w : List ℕ) where
   pub reading-length : (s : List ℕ) → IsReading g w s → length s ≡ scriptWords (length w)
   reading-length s p = sym (ap length (p .spelt)) ∙ spelling-length (p .reading) (p .reads)
 
-  -- ---- of a record with events, the derivations alone
+  -- ---- without the quiet one, the derivations alone: where the flag is not 1, and of a record with events
+  pub by-rules : (Reads g w quiet → ⊥) → readings g w ≡ map derived trees-of
+  unfolding readings
+  by-rules h = rw (gate-no (quietFits g w) (quiet ∷ []) (λ t. h (fits-quiet t)))
+
+  pub admitted-of : Derivable g w 0 0 (length w) → Admitted g w
+  admitted-of d = (derived (d .0), d .1)
+
+  pub reading-of : (s : List ℕ) → Spells g w 0 0 (length w) s → IsReading g w s
+  unfolding spelling
+  reading-of s p = record { reading = derived (p .tree); reads = p .derives; spelt = p .spelt }
+
   module _ (some : 0 < length w) where
-    by-rules : readings g w ≡ map derived trees-of
-    unfolding readings
-    by-rules = rw (gate-no (quietFits g w) (quiet ∷ []) (λ t. omega (arith, fits-quiet t .1)))
+    derived-only : readings g w ≡ map derived trees-of
+    derived-only = by-rules (λ d. omega (arith, d .1))
 
     pub count-events : length (readings g w) ≡ count g w 0 0 (length w)
     unfolding count
-    count-events = rw by-rules (length-map trees-of derived)
+    count-events = rw derived-only (length-map trees-of derived)
 
     pub reading-at : (k : ℕ) → k < length (readings g w) → spelling (getD (readings g w) k quiet) ≡ script (getD trees-of k none)
     unfolding spelling
-    reading-at k h = rw by-rules (ap spelling (map-at derived trees-of k none quiet (rw (by-rules, length-map) at h)))
-
-    pub admitted-of : Derivable g w 0 0 (length w) → Admitted g w
-    admitted-of d = (derived (d .0), d .1)
+    reading-at k h = rw derived-only (ap spelling (map-at derived trees-of k none quiet (rw (derived-only, length-map) at h)))
 
     pub of-admitted : Admitted g w → Derivable g w 0 0 (length w)
     of-admitted (quiet, d) = absurd (omega (arith, d .1))
     of-admitted (derived t, d) = (t, d)
-
-    pub reading-of : (s : List ℕ) → Spells g w 0 0 (length w) s → IsReading g w s
-    unfolding spelling
-    reading-of s p = record { reading = derived (p .tree); reads = p .derives; spelt = p .spelt }
 
     pub of-reading : (s : List ℕ) → IsReading g w s → Spells g w 0 0 (length w) s
     unfolding spelling

@@ -6,7 +6,7 @@ use native.Mathlib.Decide.{decLt}
 use native.Mathlib.Omega.{arith}
 use mathlib.Core.Path.{_≡_, sym, ap, _∙_, subst}
 use mathlib.Core.List.{List, [], _∷_, map}
-use lib.ListN.{length, getD, length-map, List·getD-append}
+use lib.ListN.{getD, length-map, List·getD-append}
 use lib.Seq.{getD-append-add}
 use Rattle.derivation.specs.Order.{Before}
 use Rattle.derivation.specs.Grammar.{EventRule, PairRule, Grammar, leafCount, ruleCount, eventRule, pairRule, byRule, ruleSymbol}

@@ -25,10 +25,11 @@ pub record Numbers {X : Type 0} (Is : X → Type 0) (scriptOf : X → List ℕ) 
 abbrev pub NumbersReadings : Grammar → List ℕ → List Reading → Type 0
 NumbersReadings g w l = Numbers (Reads g w) spelling quiet l
 
--- l numbers the derivations of [A, i, k]
+-- what stands past the end of a list of trees
 abbrev pub none : Tree
 none = leaf 0 0
 
+-- l numbers the derivations of [A, i, k]
 abbrev pub NumbersDerivations : Grammar → List ℕ → (A i k : ℕ) → List Tree → Type 0
 NumbersDerivations g w A i k l = Numbers (Derives g w A i k) script none l
 

@@ -5,9 +5,9 @@ ghost use lib.ListN.{length};
 ghost use Rattle.derivation.specs.Grammar.{leafCount, pairCount, ruleCount, eventRule, pairRule, ruleSymbol};
 ghost use Rattle.layout.specs.Layout.{headerBytes, byteAt, wordAt, versionIn, rulesFrom, ruleAt, decode, HasRule, HasLeaf, HasPair};
 
+// The header of every version, and the flag that follows it in version 2.
 pub const HEADER_BYTES: usize = 10;
 
-// Version 2 has one byte more.
 pub const FLAG_BYTES: usize = 1;
 
 // ---- numbers

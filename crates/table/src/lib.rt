@@ -63,7 +63,7 @@ pub fn split_count(
     numbers::held_product(first, second)
 }
 
-// How many readings a record has, held at the limit: the word for symbol 0 over them all, and where there are none the grammar's flag.
+// How many readings a record has, held at the limit: the word for symbol 0 over all of it, and for an empty record the flag.
 pub fn total_in(image: &[u8], events: &[u16], table: &[u32]) -> u32
     requires { ⌜ Accepted (now image) ⌝ }
     requires { ⌜ CountsIn (decode (now image)) (now events) (now table) × (length (now events) < 65536) ⌝ }

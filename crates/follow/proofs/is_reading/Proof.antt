@@ -33,7 +33,7 @@ follows-requires c κs = search needs
 returns-3 : tie.Need-returns-3
 returns-3 c =
     let some : 0 < length (c .before .before .before .before .before .before .before .args .events .now) = omega (arith, c .before .if2 .left) in
-    decides-as (c .follows .result) (reading-of _ _ some _) (of-reading _ _ some _) (c .follows .ensures)
+    decides-as (c .follows .result) (reading-of _ _ _) (of-reading _ _ some _) (c .follows .ensures)
 
 pub is-reading-spec : {M : Type 1} → statement M
 is-reading-spec =

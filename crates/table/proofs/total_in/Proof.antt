@@ -1,6 +1,6 @@
 -- Of no events the number of readings is the flag, which is 0 or 1; of some it is the count in the word for them all.
 -- Assumes nothing.
-use mathlib.Core.Path.{sym, ap, _∙_}
+use mathlib.Core.Path.{ap, _∙_}
 use Prim.Native.Nat.{ℕ}
 use native.Mathlib.Omega.{arith}
 use lib.ListN.{length, getD}
