@@ -9,13 +9,12 @@ use native.Mathlib.Omega.{arith}
 use native.Mathlib.Decide.{decLt, ℕ-discrete}
 use lib.ListN.{length, getD}
 use Rattle.derivation.specs.Grammar.{Grammar}
-use Rattle.derivation.specs.Order.{Before}
 use Rattle.derivation.specs.Tree.{Derives, Derivable, script}
 use Rattle.derivation.specs.Reading.{quiet, Reads, spelling}
 use Rattle.derivation.specs.Numbering.{none, Numbers, NumbersReadings, NumbersDerivations, Tells}
 use Rattle.derivation.specs.Derivations.{derivations, readings, known}
 use Rattle.derivation.proofs.Lists.{_∈_, in-getD, place-of}
-use Rattle.derivation.proofs.Orders.{not-before-self, before-asym, Rising, rising-at, rising-unique}
+use Rattle.derivation.proofs.Orders.{By, not-before-self, before-asym, Rising, rising-at, rising-unique}
 use Rattle.derivation.proofs.Exact.{derivations-sound, derivations-complete}
 use Rattle.derivation.proofs.Rising.{derivations-rising}
 use Rattle.derivation.proofs.Readings.{readings-sound, readings-complete, readings-rising}
@@ -24,7 +23,7 @@ use Rattle.derivation.proofs.Counts.{known-lt, known-of, of-known}
 -- ---- a list of just what Is holds of that rises by the scripts numbers it, and there is one only
 module _ {X : Type 0} (Is : X → Type 0) (scriptOf : X → List ℕ) (past : X) where
   abbrev Earlier : X → X → Type 0
-  Earlier x y = Before (scriptOf x) (scriptOf y)
+  Earlier = By scriptOf
 
   abbrev RisesAt : List X → Type 0
   RisesAt l = (p q : ℕ) → p < q → q < length l → Earlier (getD l p past) (getD l q past)

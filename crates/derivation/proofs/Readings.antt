@@ -12,13 +12,12 @@ use lib.ListN.{length, getD, length-append, length-map}
 use Rattle.bits.specs.Truth.{same}
 use Rattle.bits.proofs.Truths.{same-eq, same-other}
 use Rattle.derivation.specs.Grammar.{Grammar}
-use Rattle.derivation.specs.Order.{Before}
 use Rattle.derivation.specs.Tree.{Tree, Derives, Derivable, script, scriptWords, Spells}
 use Rattle.derivation.specs.Reading.{Reading, quiet, derived, Reads, Admitted, spelling, IsReading}
 use Rattle.derivation.specs.Derivations.{gate, trees, derivations, quietFits, readings, count}
 use Rattle.derivation.specs.Numbering.{none}
 use Rattle.derivation.proofs.Lists.{_∈_, eq→eqb, both, first, second, truth-and, truth-eqb, gate-of, gate-yes, gate-no, length-gate, map-of, in-map, map-at, in-getD, no-length}
-use Rattle.derivation.proofs.Orders.{rising-append, rising-gate, rising-map, Rising}
+use Rattle.derivation.proofs.Orders.{By, rising-append, rising-gate, rising-map, Rising}
 use Rattle.derivation.proofs.Exact.{some-events, derivations-sound, derivations-complete}
 use Rattle.derivation.proofs.Rising.{Earlier, derivations-rising}
 use Rattle.derivation.proofs.Scripts.{script-length}
@@ -51,19 +50,16 @@ module _ (g : Grammar) (w : List ℕ) where
       Memᴰ·append-right (gate (quietFits g w) (quiet ∷ [])) (in-map derived (derivations-complete g w 0 0 (length w) t d))
 
   -- ---- their order: an empty record has no derivation, so nothing stands behind the quiet reading
-  abbrev Precedes : Reading → Reading → Type 0
-  Precedes r s = Before (spelling r) (spelling s)
-
-  keeps : (t u : Tree) → Earlier t u → Precedes (derived t) (derived u)
+  keeps : (t u : Tree) → Earlier t u → By spelling (derived t) (derived u)
   unfolding spelling
   keeps t u e = e
 
-  pub readings-rising : Rising Precedes (readings g w)
+  pub readings-rising : Rising (By spelling) (readings g w)
   unfolding readings
   readings-rising =
-      rising-append Precedes (gate (quietFits g w) (quiet ∷ [])) (map derived trees-of)
-      (rising-gate Precedes (quietFits g w) (quiet ∷ []) (λ y m. absurd (List·Memᴰ·not-nil m), tt))
-      (rising-map Earlier Precedes derived keeps trees-of (derivations-rising g w 0 0 (length w)))
+      rising-append (By spelling) (gate (quietFits g w) (quiet ∷ [])) (map derived trees-of)
+      (rising-gate (By spelling) (quietFits g w) (quiet ∷ []) (λ y m. absurd (List·Memᴰ·not-nil m), tt))
+      (rising-map Earlier (By spelling) derived keeps trees-of (derivations-rising g w 0 0 (length w)))
       (λ x y m n.
       let a = fits-quiet (gate-of (quietFits g w) (quiet ∷ []) m .0) in
       let b = map-of derived trees-of n in

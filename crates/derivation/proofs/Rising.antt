@@ -7,15 +7,15 @@ use Prim.Native.Nat.{ℕ, zero, suc, _+_, _-_, _<_}
 use native.Mathlib.Omega.{arith}
 use lib.Dec.{eqb}
 use Rattle.derivation.specs.Grammar.{Grammar, leafCount, pairCount, pairRule}
-use Rattle.derivation.specs.Order.{Before, less, equal}
+use Rattle.derivation.specs.Order.{less, equal}
 use Rattle.derivation.specs.Tree.{Tree, leaf, node, Derives, script}
 use Rattle.derivation.specs.Derivations.{join, cross, Below, leafFits, leafAt, nodesAt, splitsAt, level, trees, derivations}
 use Rattle.derivation.proofs.Lists.{_∈_, join-of, cross-of, gate-of}
-use Rattle.derivation.proofs.Orders.{before-asym, before-left, before-right, Rising, rising-append, rising-join, rising-cross, rising-gate, rising-unique}
+use Rattle.derivation.proofs.Orders.{By, before-asym, before-left, before-right, Rising, rising-append, rising-join, rising-cross, rising-gate, rising-unique}
 use Rattle.derivation.proofs.Exact.{derivations-sound, derivations-complete, level-sound, level-complete}
 
 abbrev pub Earlier : Tree → Tree → Type 0
-Earlier t u = Before (script t) (script u)
+Earlier = By script
 
 pub earlier-asym : (t u : Tree) → Earlier t u → Earlier u t → ⊥
 earlier-asym t u = before-asym

@@ -49,17 +49,15 @@ pub quiet-shown : decode (flaggedImage 1) ≡ quietChain
 unfolding decode counting rulesFrom quietIn same flaggedImage chain quietChain
 quiet-shown = refl
 
--- CHAIN and STOP are accepted, and a rule twice is refusal 7
-pub refusals : (imageRefusal chainImage ∷ imageRefusal stopImage ∷ imageRefusal twiceImage ∷ []) ≡ 0 ∷ 0 ∷ 7 ∷ []
-unfolding imageRefusal image-decided bytes-decided rules-decided decided-both answer pick marked? range? fit? rises? dec-every dec-before dec-as dec-either dec-implies Dec·and Dec·not decode counting rulesFrom quietIn same chainImage stopImage twiceImage ℕ-discrete decLe decLt
+-- CHAIN and STOP are accepted, and a rule twice is refusal 7; the flags 0 and 1 are accepted, 2 is refusal 4, and a flag that isn't there 5
+pub refusals :
+    (imageRefusal chainImage ∷ imageRefusal stopImage ∷ imageRefusal twiceImage
+    ∷ imageRefusal (flaggedImage 0) ∷ imageRefusal (flaggedImage 1) ∷ imageRefusal (flaggedImage 2) ∷ imageRefusal unflaggedImage ∷ [])
+    ≡ 0 ∷ 0 ∷ 7 ∷ 0 ∷ 0 ∷ 4 ∷ 5 ∷ []
+unfolding imageRefusal image-decided bytes-decided rules-decided decided-both answer pick marked? range? fit? rises? dec-every dec-before dec-as dec-either dec-implies Dec·and Dec·not decode counting rulesFrom quietIn same chainImage stopImage twiceImage flaggedImage unflaggedImage ℕ-discrete decLe decLt
 refusals = refl
 
--- the flags 0 and 1 are accepted and 2 is refusal 4; without the byte it is refusal 5
-pub flags : (imageRefusal (flaggedImage 0) ∷ imageRefusal (flaggedImage 1) ∷ imageRefusal (flaggedImage 2) ∷ imageRefusal unflaggedImage ∷ []) ≡ 0 ∷ 0 ∷ 4 ∷ 5 ∷ []
-unfolding imageRefusal image-decided bytes-decided rules-decided decided-both answer pick marked? range? fit? rises? dec-every dec-before dec-as dec-either dec-implies Dec·and Dec·not decode counting rulesFrom quietIn same flaggedImage unflaggedImage ℕ-discrete decLe decLt
-flags = refl
-
--- which names rule 1: rule 0 has no predecessor, and no rule is before itself
+-- 7 names rule 1 there: rule 0 has no predecessor, and no rule is before itself
 pub twice-named : Names (decode twiceImage) 7 1
 unfolding decode counting rulesFrom quietIn same twiceImage
 twice-named = names-low (record { within = omega arith; before = λ r l z. absurd (omega arith); fault = λ h. not-before-self (h (omega arith) (λ e. omega arith)) })

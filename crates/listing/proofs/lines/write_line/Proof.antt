@@ -6,7 +6,6 @@ use Prim.Native.Nat.{ℕ}
 use native.Mathlib.Omega.{arith}
 use lib.ListN.{take, length-take}
 use lib.Seq.{length-take-le}
-use denote.Ref.{now}
 use Rattle.listing.proofs.Lists.{line-of}
 use borrow.Author.Needs.{needs}
 use Rattle.listing.proofs.lines.write_line.Statement.{statement}
@@ -25,24 +24,32 @@ write-reading-requires c κs =
     (q .0, (q .1 .0, ((omega (arith, p .0), omega (arith, p .0)), (p .1, p .2))))
 
 array-share-prefix-room : tie.Need-array-share-prefix-room
-array-share-prefix-room c = omega (arith, c .before .before .before .before .before .before .before .before .before .pre .1 .1 .0 .0, c .before .before .before .before .script-words .ensures)
+array-share-prefix-room c =
+    let w = c .before .before .before .before in
+    omega (arith, w .before .before .before .before .before .pre .1 .1 .0 .0, w .script-words .ensures)
 
 slice-aggregate-put-line : tie.Need-slice-aggregate-put-line
-slice-aggregate-put-line c = sym (length-take-le _ _ (omega (arith, c .before .before .before .before .before .before .before .before .before .before .pre .1 .1 .0 .0, c .before .before .before .before .before .script-words .ensures)))
+slice-aggregate-put-line c = sym (length-take-le _ _ (array-share-prefix-room (c .before)))
 
 put-line-requires : tie.Need-put-line-requires
-put-line-requires c κs = rw length-take (omega (arith, c .before .before .before .before .before .before .before .before .before .before .pre .1 .1 .0 .0, c .before .before .before .before .before .before .before .before .before .before .pre .1 .1 .1, c .before .before .before .before .before .script-words .ensures))
+put-line-requires c κs =
+    let w = c .before .before .before .before .before in
+    let q = w .before .before .before .before .before .pre .1 .1 in
+    rw length-take (omega (arith, q .0 .0, q .1, w .script-words .ensures))
 
 same-length : tie.Need-same-length
 same-length c = search needs
 
 returns : tie.Need-returns
 returns c =
-    let p = c .before .before .before .before .before .before .before .before .before .before .before .before .before .pre .1 .1 .0 in
-    let e = c .before .before .before .before .before .before .before .before .script-words .ensures in
-    let b = rw length-take at (c .before .before .put-line .ensures .0) in
-    let front = take (c .before .before .before .before .before .before .before .before .before .before .before .before .before .args .at) (now (c .before .before .before .before .before .before .before .before .before .before .before .before .before .args .out)) in
-    (omega (arith, b, p .0, e), c .before .before .put-line .ensures .1 ∙ ap (λ (x : List ℕ). front ++ x) (line-of _ _ _ (p .2) _ _ _ e (c .before .before .before .before .before .before .write-reading .ensures)))
+    let t = c .before .before .put-line .ensures in
+    let r = c .before .before .before .before .before .before in
+    let w = r .before .before in
+    let s = w .before .before .before .before .before in
+    let p = s .pre .1 .1 .0 in (
+      omega (arith, rw length-take at (t .0), p .0, w .script-words .ensures),
+      t .1 ∙ ap (λ (x : List ℕ). take (s .args .at) (s .args .out .now) ++ x) (line-of _ _ _ (p .2) _ _ _ (w .script-words .ensures) (r .write-reading .ensures)),
+    )
 
 pub write-line-spec : {M : Type 1} → statement M
 write-line-spec =
