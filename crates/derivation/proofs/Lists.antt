@@ -3,7 +3,7 @@
 use mathlib.Core.Path.{_≡_, refl, sym, ap, _∙_, subst}
 use mathlib.Core.Bool.{Bool, true, false, _&&_}
 use mathlib.Core.Logic.{_⊎_, ⊎-elim}
-use mathlib.Core.List.{List, [], _∷_, _++_, map, List·Memᴰ, List·Memᴰ·head, List·Memᴰ·tail, List·Memᴰ·not-nil, List·Memᴰ·cases-cons, List·Memᴰ·append-cases, Memᴰ·append-left, Memᴰ·append-right}
+use mathlib.Core.List.{List, [], _∷_, _++_, map, List·Memᴰ, List·Memᴰ·head, List·Memᴰ·tail, List·Memᴰ·not-nil, List·Memᴰ·cases-cons, List·Memᴰ·append-cases, Memᴰ·append-left, Memᴰ·append-right, Memᴰ·map, Memᴰ·of-map}
 use Prim.Native.Nat.{ℕ, zero, suc, _+_, _*_, _<_, suc-le-suc}
 use native.Mathlib.Nat.{not-suc-le-zero, lt-suc-self, eq-or-lt-of-le, le-of-suc-le-suc, le-step, zero-lt-suc}
 use native.Mathlib.Omega.{arith}
@@ -59,18 +59,8 @@ pub no-length : {X : Type 0} (l : List X) → length l ≡ 0 → l ≡ []
 no-length [] e = refl
 no-length (x ∷ l) e = absurd (omega arith)
 
--- ---- one thing of each element
+-- ---- one thing of each element, by its place
 module _ {ℓ} {X Y : Type ℓ} (h : X → Y) where
-  pub map-of : {y : Y} (us : List X) → y ∈ map h us → (u : X) × (u ∈ us) × (y ≡ h u)
-  map-of [] m = absurd (List·Memᴰ·not-nil m)
-  map-of (u ∷ us) m =
-      ⊎-elim (λ e. (u, List·Memᴰ·head refl, e)) (λ t. let q = map-of us t in (q .0, List·Memᴰ·tail (q .1), q .2))
-      (List·Memᴰ·cases-cons m)
-
-  pub in-map : {u : X} {us : List X} → u ∈ us → h u ∈ map h us
-  in-map (List·Memᴰ·head e) = List·Memᴰ·head (ap h e)
-  in-map (List·Memᴰ·tail m) = List·Memᴰ·tail (in-map m)
-
   pub map-at : (us : List X) (b : ℕ) (d : X) (e : Y) → b < length us → getD (map h us) b e ≡ h (getD us b d)
   map-at [] b d e l = absurd (not-suc-le-zero l)
   map-at (u ∷ us) zero d e l = refl
@@ -138,14 +128,14 @@ module _ {ℓ} {X : Type ℓ} where
   unfolding cross
   cross-of h [] us m = absurd (List·Memᴰ·not-nil m)
   cross-of h (t ∷ ts) us m =
-      ⊎-elim (λ a. let q = map-of (h t) us a in (t, q .0, List·Memᴰ·head refl, q .1, q .2))
+      ⊎-elim (λ a. let q = Memᴰ·of-map (h t) us a in (t, q .0, List·Memᴰ·head refl, q .1, sym (q .2)))
       (λ b. let q = cross-of h ts us b in (q .0, q .1, List·Memᴰ·tail (q .2), q .3, q .4))
       (List·Memᴰ·append-cases (map (h t) us) m)
 
   pub in-cross : {t u : X} {ts us : List X} (h : X → X → X) → t ∈ ts → u ∈ us → h t u ∈ cross h ts us
   unfolding cross
   in-cross {t} {u} {us = us} h (List·Memᴰ·head {xs = xs} e) n =
-      Memᴰ·append-left (cross h xs us) (subst (λ (s : X). h t u ∈ map (h s) us) e (in-map (h t) n))
+      Memᴰ·append-left (cross h xs us) (subst (λ (s : X). h t u ∈ map (h s) us) e (Memᴰ·map (h t) n))
   in-cross {us = us} h (List·Memᴰ·tail {x = x} m) n = Memᴰ·append-right (map (h x) us) (in-cross h m n)
 
   pub length-cross : (h : X → X → X) (ts us : List X) → length (cross h ts us) ≡ length ts * length us

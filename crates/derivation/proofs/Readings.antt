@@ -1,8 +1,8 @@
 -- `readings` holds exactly the readings, in the order of their scripts; and what it is of an empty record, and of one with events.
 -- Assumes nothing.
-use mathlib.Core.Path.{_≡_, refl, sym, ap, _∙_, subst⁻¹}
+use mathlib.Core.Path.{_≡_, refl, sym, ap, _∙_, subst, subst⁻¹}
 use mathlib.Core.Logic.{⊎-elim}
-use mathlib.Core.List.{List, [], _∷_, map, List·Memᴰ·head, List·Memᴰ·not-nil, List·Memᴰ·append-cases, List·Memᴰ·eq-of-singleton, Memᴰ·append-left, Memᴰ·append-right}
+use mathlib.Core.List.{List, [], _∷_, map, List·Memᴰ·head, List·Memᴰ·not-nil, List·Memᴰ·append-cases, List·Memᴰ·eq-of-singleton, Memᴰ·append-left, Memᴰ·append-right, Memᴰ·map, Memᴰ·of-map}
 use Prim.Native.Nat.{ℕ, _+_, _*_, _≤_, _<_}
 use native.Mathlib.Nat.{sub-zero}
 use native.Mathlib.Omega.{arith}
@@ -16,7 +16,7 @@ use Rattle.derivation.specs.Tree.{Tree, Derives, Derivable, script, scri
 use Rattle.derivation.specs.Reading.{Reading, quiet, derived, Reads, Admitted, spelling, IsReading}
 use Rattle.derivation.specs.Derivations.{gate, trees, derivations, quietFits, readings, count}
 use Rattle.derivation.specs.Numbering.{none}
-use Rattle.derivation.proofs.Lists.{_∈_, eq→eqb, both, first, second, truth-and, truth-eqb, gate-of, gate-yes, gate-no, length-gate, map-of, in-map, map-at, in-getD, no-length}
+use Rattle.derivation.proofs.Lists.{_∈_, eq→eqb, both, first, second, truth-and, truth-eqb, gate-of, gate-yes, gate-no, length-gate, map-at, in-getD, no-length}
 use Rattle.derivation.proofs.Orders.{By, rising-append, rising-gate, rising-map, Rising}
 use Rattle.derivation.proofs.Exact.{some-events, derivations-sound, derivations-complete}
 use Rattle.derivation.proofs.Rising.{Earlier, derivations-rising}
@@ -38,7 +38,7 @@ module _ (g : Grammar) (w : List ℕ) where
   readings-sound r m =
       ⊎-elim
       (λ a. let q = gate-of (quietFits g w) (quiet ∷ []) a in subst⁻¹ (Reads g w) (List·Memᴰ·eq-of-singleton (q .1)) (fits-quiet (q .0)))
-      (λ a. let q = map-of derived trees-of a in subst⁻¹ (Reads g w) (q .2) (derivations-sound g w 0 0 (length w) (q .1)))
+      (λ a. let q = Memᴰ·of-map derived trees-of a in subst (Reads g w) (q .2) (derivations-sound g w 0 0 (length w) (q .1)))
       (List·Memᴰ·append-cases (gate (quietFits g w) (quiet ∷ [])) m)
 
   pub readings-complete : (r : Reading) → Reads g w r → r ∈ readings g w
@@ -47,7 +47,7 @@ module _ (g : Grammar) (w : List ℕ) where
       let m : quiet ∈ gate (quietFits g w) (quiet ∷ []) = rw (gate-yes (quietFits g w) (quiet ∷ []) (quiet-fits d)) (List·Memᴰ·head refl) in
       Memᴰ·append-left (map derived trees-of) m
   readings-complete (derived t) d =
-      Memᴰ·append-right (gate (quietFits g w) (quiet ∷ [])) (in-map derived (derivations-complete g w 0 0 (length w) t d))
+      Memᴰ·append-right (gate (quietFits g w) (quiet ∷ [])) (Memᴰ·map derived (derivations-complete g w 0 0 (length w) t d))
 
   -- ---- their order: an empty record has no derivation, so nothing stands behind the quiet reading
   keeps : (t u : Tree) → Earlier t u → By spelling (derived t) (derived u)
@@ -62,7 +62,7 @@ module _ (g : Grammar) (w : List ℕ) where
       (rising-map Earlier (By spelling) derived keeps trees-of (derivations-rising g w 0 0 (length w)))
       (λ x y m n.
       let a = fits-quiet (gate-of (quietFits g w) (quiet ∷ []) m .0) in
-      let b = map-of derived trees-of n in
+      let b = Memᴰ·of-map derived trees-of n in
       absurd (omega (arith, a .1, some-events g w 0 0 (length w) (b .0) (derivations-sound g w 0 0 (length w) (b .1)))))
 
   -- ---- how long a script is: 2 (2 n - 1) words, and none for an empty record

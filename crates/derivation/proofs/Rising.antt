@@ -17,9 +17,6 @@ use Rattle.derivation.proofs.Exact.{derivations-sound, derivations-comp
 abbrev pub Earlier : Tree → Tree → Type 0
 Earlier = By script
 
-pub earlier-asym : (t u : Tree) → Earlier t u → Earlier u t → ⊥
-earlier-asym t u = before-asym
-
 -- the rule and the split of a tree's root: the first two words of its script
 abbrev rootRule : Tree → ℕ
 rootRule (leaf r p) = r
@@ -115,10 +112,10 @@ module _ (g : Grammar) (w : List ℕ) where
   derivations-rising A i k = rising (k - i) A i k
 
   -- the numbering is the only one
-  pub unique : (A i k : ℕ) (l : List Tree) → Rising Earlier l → ((t : Tree) → t ∈ l → Derives g w A i k t)
+  unique : (A i k : ℕ) (l : List Tree) → Rising Earlier l → ((t : Tree) → t ∈ l → Derives g w A i k t)
       → ((t : Tree) → Derives g w A i k t → t ∈ l) → l ≡ derivations g w A i k
   unique A i k l r s c =
-      rising-unique Earlier earlier-asym l (derivations g w A i k) r (derivations-rising A i k)
+      rising-unique Earlier (λ t u. before-asym) l (derivations g w A i k) r (derivations-rising A i k)
       (λ t m. derivations-complete g w A i k t (s t m)) (λ t m. c t (derivations-sound g w A i k m))
 
   -- the derivations over (i, k) from those over the shorter stretches: no fuel
