@@ -1,5 +1,7 @@
 pub mod Truths
+pub mod Decisions
 pub mod Sums
 pub mod Bits
 pub mod Words
 pub mod First
+pub mod Sets

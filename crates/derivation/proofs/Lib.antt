@@ -2,6 +2,10 @@ pub mod Lists
 pub mod Orders
 pub mod Sound
 pub mod Exact
+pub mod Around
+pub mod Live
+pub mod Least
+pub mod Lives
 pub mod Rising
 pub mod Scripts
 pub mod Readings

@@ -2,6 +2,7 @@ pub mod Order
 pub mod Grammar
 pub mod Sound
 pub mod Tree
+pub mod Live
 pub mod Reading
 pub mod Numbering
 pub mod Derivations

@@ -1,17 +1,18 @@
 -- Each demand of the tables is decided, so that a table always has an answer, and one that computes.
 -- Assumes nothing.
-use Prim.Native.Nat.{ℕ, zero, suc, _+_, _-_, _*_, _<_}
-use native.Mathlib.Nat.{lt-suc-self, le-step, le-of-suc-le-suc, eq-or-lt-of-le, not-suc-le-zero}
+use Prim.Native.Nat.{ℕ, _+_, _-_, _*_, _<_}
 use native.Mathlib.Decide.{ℕ-discrete, decLe, decLt}
-use mathlib.Core.Path.{_≡_, sym, subst}
-use mathlib.Core.Logic.{_⊎_, inl, inr, ⊎-elim, Dec·and, Dec·not}
+use mathlib.Core.Path.{_≡_}
+use mathlib.Core.Logic.{_⊎_, inl, inr, Dec·and, Dec·not}
 use mathlib.Core.List.{List, [], _∷_, _++_}
 use lib.ListN.{length}
-use Rattle.bits.specs.Truth.{Every}
+use Rattle.bits.proofs.Decisions.{dec-as, dec-implies, dec-either, dec-every}
 use Rattle.derivation.specs.Order.{Before, less, equal}
 use Rattle.derivation.specs.Grammar.{Grammar, leafCount, ruleCount}
 use Rattle.derivation.specs.Sound.{mostSymbols, mostLeaves, mostPairs, InRange, highest, asNumbers, SymbolsFit, Rises}
+use Rattle.derivation.specs.Live.{Live}
 use Rattle.derivation.proofs.Orders.{none-before}
+use Rattle.derivation.proofs.Lives.{live?}
 use Rattle.image.specs.Refusal.{Row, _unless_, First}
 use Rattle.layout.specs.Layout.{headerBytes, byteAt, versionIn, symbolsIn, leavesIn, pairsIn, quietIn, rulesFrom, decode}
 use Rattle.image.specs.Image.{mostEvents, Marked, byteRows, ruleRows, imageRows, eventRows, recordRows}
@@ -44,31 +45,7 @@ unfoldable pub decided-both : (rows more : List Row) → Decided rows → Decide
 decided-both [] more d e = e
 decided-both ((k unless P) ∷ rows) more d e = (d .0, decided-both rows more (d .1) e)
 
--- ---- decisions of the forms that demands have
-unfoldable pub dec-as : {A B : Type 0} → (A → B) → (B → A) → Dec A → Dec B
-dec-as f h (yes a) = yes (f a)
-dec-as f h (no a) = no (λ b. a (h b))
-
-unfoldable pub dec-implies : {A B : Type 0} → Dec A → Dec B → Dec (A → B)
-dec-implies (yes a) (yes b) = yes (λ _. b)
-dec-implies (yes a) (no b) = no (λ f. b (f a))
-dec-implies (no a) d = yes (λ x. absurd (a x))
-
-unfoldable pub dec-either : {A B : Type 0} → Dec A → Dec B → Dec (A ⊎ B)
-dec-either (yes a) d = yes (inl a)
-dec-either (no a) (yes b) = yes (inr b)
-dec-either (no a) (no b) = no (λ p. ⊎-elim a b p)
-
-pub every-more : (m : ℕ) (P : ℕ → Type 0) → Every m P × P m → Every (suc m) P
-every-more m P p r l = ⊎-elim (λ e. subst P (sym e) (p .1)) (λ h. p .0 r h) (eq-or-lt-of-le (le-of-suc-le-suc l))
-
-pub every-less : (m : ℕ) (P : ℕ → Type 0) → Every (suc m) P → Every m P × P m
-every-less m P f = (λ r l. f r (le-step l), f m (lt-suc-self m))
-
-unfoldable pub dec-every : (m : ℕ) (P : ℕ → Type 0) → ((r : ℕ) → Dec (P r)) → Dec (Every m P)
-dec-every zero P d = yes (λ r l. absurd (not-suc-le-zero l))
-dec-every (suc m) P d = dec-as (every-more m P) (every-less m P) (Dec·and (dec-every m P d) (d m))
-
+-- ---- an order of lists
 pub before-to : {x y : ℕ} {xs ys : List ℕ} → (x < y) ⊎ ((x ≡ y) × Before xs ys) → Before (x ∷ xs) (y ∷ ys)
 before-to (inl p) = less p
 before-to (inr p) = equal (p .0) (p .1)
@@ -116,7 +93,10 @@ bytes-decided b = (
 )
 
 unfoldable pub rules-decided : (g : Grammar) → Decided (ruleRows g)
-rules-decided g = (dec-every (ruleCount g) (SymbolsFit g) (fit? g), (dec-every (ruleCount g) (Rises g) (rises? g), tt))
+rules-decided g = (
+  dec-every (ruleCount g) (SymbolsFit g) (fit? g),
+  (dec-every (ruleCount g) (Rises g) (rises? g), (dec-every (g .symbols) (Live g) (live? g), tt)),
+)
 
 unfoldable pub image-decided : (b : List ℕ) → Decided (imageRows b)
 image-decided b = decided-both (byteRows b) (ruleRows (decode b)) (bytes-decided b) (rules-decided (decode b))

@@ -7,14 +7,18 @@ use mathlib.Core.Path.{_≡_, refl}
 use mathlib.Core.List.{List, [], _∷_}
 use Prim.Native.Nat.{ℕ}
 use Rattle.bits.specs.Truth.{same}
+use Rattle.bits.specs.Bit.{bit, put}
+use Rattle.bits.proofs.Decisions.{dec-as, dec-implies, dec-either, dec-every}
 use Rattle.derivation.specs.Sound.{mostSymbols, mostPairs}
 use Rattle.derivation.specs.Chart.{cells, firingsBound}
 use Rattle.derivation.specs.Examples.{chain, quietChain, stop}
 use Rattle.derivation.proofs.Orders.{not-before-self}
+use Rattle.derivation.proofs.Least as least
+use Rattle.derivation.proofs.Lives.{upClauses, downClauses, derives?, reached?, live?}
 use Rattle.layout.specs.Layout.{quietIn, rulesFrom, counting, decode}
 use Rattle.image.specs.Image.{mostEvents, Names}
 use Rattle.image.proofs.Named.{names-low}
-use Rattle.image.proofs.Decided.{pick, answer, decided-both, dec-as, dec-implies, dec-either, dec-every, dec-before, marked?, range?, fit?, rises?, bytes-decided, rules-decided, image-decided, imageRefusal}
+use Rattle.image.proofs.Decided.{pick, answer, decided-both, dec-before, marked?, range?, fit?, rises?, bytes-decided, rules-decided, image-decided, imageRefusal}
 
 unfoldable pub chainImage : List ℕ
 chainImage = 0x45 ∷ 0x53 ∷ 0x47 ∷ 1 ∷ 0 ∷ 1 ∷ 1 ∷ 0 ∷ 1 ∷ 0 ∷ 0 ∷ 7 ∷ 0 ∷ 0 ∷ 0 ∷ 0 ∷ []
@@ -36,6 +40,20 @@ flaggedImage flag = 0x45 ∷ 0x53 ∷ 0x47 ∷ 2 ∷ 0 ∷ 1 ∷ 1 ∷ 0 ∷ 1 �
 unfoldable pub unflaggedImage : List ℕ
 unflaggedImage = 0x45 ∷ 0x53 ∷ 0x47 ∷ 2 ∷ 0 ∷ 1 ∷ 0 ∷ 0 ∷ 0 ∷ 0 ∷ []
 
+-- with a dead symbol: no rule at all, where a quiet shift is proper too; CHAIN without its event rule, where 0 derives through itself only; CHAIN with a
+-- second symbol that it needs and that no rule can finish; and CHAIN beside a symbol that derives an event and cannot be reached
+unfoldable pub ruleless : ℕ → List ℕ
+ruleless flag = 0x45 ∷ 0x53 ∷ 0x47 ∷ 2 ∷ 0 ∷ 1 ∷ 0 ∷ 0 ∷ 0 ∷ 0 ∷ flag ∷ []
+
+unfoldable pub endlessImage : List ℕ
+endlessImage = 0x45 ∷ 0x53 ∷ 0x47 ∷ 1 ∷ 0 ∷ 1 ∷ 0 ∷ 0 ∷ 1 ∷ 0 ∷ 0 ∷ 0 ∷ 0 ∷ []
+
+unfoldable pub misspeltImage : List ℕ
+misspeltImage = 0x45 ∷ 0x53 ∷ 0x47 ∷ 1 ∷ 0 ∷ 2 ∷ 1 ∷ 0 ∷ 2 ∷ 0 ∷ 0 ∷ 7 ∷ 0 ∷ 0 ∷ 0 ∷ 0 ∷ 0 ∷ 0 ∷ 1 ∷ []
+
+unfoldable pub islandImage : List ℕ
+islandImage = 0x45 ∷ 0x53 ∷ 0x47 ∷ 1 ∷ 0 ∷ 2 ∷ 2 ∷ 0 ∷ 1 ∷ 0 ∷ 0 ∷ 7 ∷ 0 ∷ 1 ∷ 7 ∷ 0 ∷ 0 ∷ 0 ∷ 0 ∷ []
+
 -- they show the grammars of the examples
 pub chain-shown : decode chainImage ≡ chain
 unfolding decode counting rulesFrom quietIn same chainImage chain
@@ -49,12 +67,14 @@ pub quiet-shown : decode (flaggedImage 1) ≡ quietChain
 unfolding decode counting rulesFrom quietIn same flaggedImage chain quietChain
 quiet-shown = refl
 
--- CHAIN and STOP are accepted, and a rule twice is refusal 7; the flags 0 and 1 are accepted, 2 is refusal 4, and a flag that isn't there 5
+-- CHAIN and STOP are accepted, and a rule twice is refusal 7; the flags 0 and 1 are accepted, 2 is refusal 4, and a flag that isn't there 5; a dead symbol
+-- is refusal 15
 pub refusals :
     (imageRefusal chainImage ∷ imageRefusal stopImage ∷ imageRefusal twiceImage
-    ∷ imageRefusal (flaggedImage 0) ∷ imageRefusal (flaggedImage 1) ∷ imageRefusal (flaggedImage 2) ∷ imageRefusal unflaggedImage ∷ [])
-    ≡ 0 ∷ 0 ∷ 7 ∷ 0 ∷ 0 ∷ 4 ∷ 5 ∷ []
-unfolding imageRefusal image-decided bytes-decided rules-decided decided-both answer pick marked? range? fit? rises? dec-every dec-before dec-as dec-either dec-implies Dec·and Dec·not decode counting rulesFrom quietIn same chainImage stopImage twiceImage flaggedImage unflaggedImage ℕ-discrete decLe decLt
+    ∷ imageRefusal (flaggedImage 0) ∷ imageRefusal (flaggedImage 1) ∷ imageRefusal (flaggedImage 2) ∷ imageRefusal unflaggedImage
+    ∷ imageRefusal (ruleless 0) ∷ imageRefusal (ruleless 1) ∷ imageRefusal endlessImage ∷ imageRefusal misspeltImage ∷ imageRefusal islandImage ∷ [])
+    ≡ 0 ∷ 0 ∷ 7 ∷ 0 ∷ 0 ∷ 4 ∷ 5 ∷ 15 ∷ 15 ∷ 15 ∷ 15 ∷ 15 ∷ []
+unfolding imageRefusal image-decided bytes-decided rules-decided decided-both answer pick marked? range? fit? rises? live? derives? reached? upClauses downClauses least.decided least.least least.found least.goOn least.ready least.pick least.all? bit put dec-every dec-before dec-as dec-either dec-implies Dec·and Dec·not decode counting rulesFrom quietIn same chainImage stopImage twiceImage flaggedImage unflaggedImage ruleless endlessImage misspeltImage islandImage ℕ-discrete decLe decLt
 refusals = refl
 
 -- 7 names rule 1 there: rule 0 has no predecessor, and no rule is before itself

@@ -1,19 +1,23 @@
 -- Laws of the two tests: one answer only, what the answer 0 gives, and how a service goes on from them.
 -- Assumes nothing.
-use Prim.Native.Nat.{ℕ, _≤_}
+use Prim.Native.Nat.{ℕ, _≤_, _<_}
 use native.Mathlib.Decide.{ℕ-discrete}
 use native.Mathlib.Omega.{arith}
 use mathlib.Core.Path.{_≡_, refl, sym, _∙_, subst, subst₂}
-use mathlib.Core.Logic.{_≢_}
+use mathlib.Core.Logic.{_⊎_, inl, inr, _≢_}
 use mathlib.Core.List.{List, _++_}
 use lib.ListN.{length}
-use Rattle.derivation.specs.Grammar.{Grammar}
+use Rattle.bits.specs.Truth.{Every}
+use Rattle.derivation.specs.Grammar.{Grammar, ruleCount}
+use Rattle.derivation.specs.Sound.{SymbolsFit, Rises, Sound}
+use Rattle.derivation.specs.Live.{DerivesSome, Reached}
+use Rattle.derivation.proofs.Lives.{dead-symbol}
 use Rattle.image.specs.declared.Tested.{Tested}
-use Rattle.image.specs.Refusal.{Row, First}
+use Rattle.image.specs.Refusal.{Row, FirstOf, First}
 use Rattle.layout.specs.Layout.{decode, Whole}
 use Rattle.image.specs.Image.{mostEvents, byteRows, ruleRows, eventRows, imageRows, recordRows, Ranged, Names, Gives, GivesCounts, TestedIs, Accepted, longestImage}
-use Rattle.image.proofs.Refusals.{AllHold, Positive, none, pass, first-only, first-zero, all-hold, all-front, all-back, first-hit, first-pass, past-zero, under}
-use Rattle.image.proofs.Named.{names-same, names-before}
+use Rattle.image.proofs.Refusals.{AllHold, Lacks, Positive, none, pass, first-only, first-zero, all-hold, all-front, all-back, first-hit, first-pass, past-zero, reached, passed, never}
+use Rattle.image.proofs.Named.{names-same, names-none, names-before}
 use Rattle.layout.proofs.Decoded.{leaf-count, pair-count, symbol-count, quiet-flag, rules-from-low}
 
 -- ---- one answer only
@@ -59,9 +63,15 @@ acceptance rows g t p q = record {
 }
 
 -- ---- within the test of an image
--- a refusal by the bytes names no rule
+-- a refusal by the bytes is not one of the two that name a rule
+pub bytes-other : (b : List ℕ) (n : ℕ) → First (byteRows b) n → (n ≢ 6) × (n ≢ 7)
+bytes-other b n p = (λ e. lacks 6 (λ z. omega arith) (omega arith) e, λ e. lacks 7 (λ z. omega arith) (omega arith) e)
+  where
+    lacks : (m : ℕ) → m ≢ 0 → Lacks m (byteRows b) → n ≢ m
+    lacks m z u e = never (byteRows b) m z u (subst (First (byteRows b)) e p)
+
 pub bytes-name : (b : List ℕ) {g : Grammar} (n : ℕ) → First (byteRows b) n → Names g n 0
-bytes-name b n p = names-before (under 6 (byteRows b) n (omega arith) p) refl
+bytes-name b n p = let o = bytes-other b n p in names-none (o .0) (o .1) refl
 
 module _ (b : List ℕ) (n : ℕ) (e : n ≡ 0) (p : First (byteRows b) n) where
   pub bytes-hold : AllHold (byteRows b)
@@ -79,25 +89,29 @@ module _ (b : List ℕ) (n : ℕ) (e : n ≡ 0) (p : First (byteRows b) n) where
 
 -- ---- what is accepted
 module _ (b : List ℕ) where
+  pub sound : Ranged b → Every (ruleCount (decode b)) (SymbolsFit (decode b)) → Every (ruleCount (decode b)) (Rises (decode b)) → Sound (decode b)
+  sound q f r = record {
+    range = record {
+      some = rw symbol-count (q .some);
+      symbols = rw symbol-count (q .symbols);
+      leaves = rw leaf-count (q .leaves);
+      pairs = rw pair-count (q .pairs);
+      quiet = rw quiet-flag (q .quiet);
+    };
+    fit = f;
+    rising = r;
+  }
+
   -- from every demand on it
   pub holding : AllHold (imageRows b) → Accepted b
   holding h =
-      let q = h .1 .1 .1 .0 in
+      let r = h .1 .1 .1 .1 .1 in
       record {
         marked = h .1 .0;
         version = h .1 .1 .0;
         whole = record { long = h .0; sized = h .1 .1 .1 .1 .0 };
-        sound = record {
-          range = record {
-            some = rw symbol-count (q .some);
-            symbols = rw symbol-count (q .symbols);
-            leaves = rw leaf-count (q .leaves);
-            pairs = rw pair-count (q .pairs);
-            quiet = rw quiet-flag (q .quiet);
-          };
-          fit = h .1 .1 .1 .1 .1 .0;
-          rising = h .1 .1 .1 .1 .1 .1 .0;
-        };
+        sound = sound (h .1 .1 .1 .0) (r .0) (r .1 .0);
+        live = r .1 .1 .0;
       }
 
   pub accepted : First (imageRows b) 0 → Accepted b
@@ -116,7 +130,22 @@ module _ (b : List ℕ) where
         pairs = rw (← pair-count b) (q .pairs);
         quiet = rw (← quiet-flag b) (q .quiet);
       })
-      (pass (a .whole .sized) (pass (a .sound .fit) (pass (a .sound .rising) none))))))
+      (pass (a .whole .sized) (pass (a .sound .fit) (pass (a .sound .rising) (pass (a .live) none)))))))
+
+  -- 15 says that the grammar is sound, and that some symbol derives no events or cannot be reached
+  pub fifteen : First (imageRows b) 15
+      → Sound (decode b) × ((A : ℕ) × (A < decode b .symbols) × ((DerivesSome (decode b) A → ⊥) ⊎ (Reached (decode b) A → ⊥)))
+  fifteen p = go (passed (byteRows b) (ruleRows (decode b)) 15 (omega arith) p .is)
+    where
+      range : Ranged b
+      range = ranged b 0 refl (reached (byteRows b) (ruleRows (decode b)) 15 (omega arith) p)
+
+      go : FirstOf (ruleRows (decode b)) 15
+          → Sound (decode b) × ((A : ℕ) × (A < decode b .symbols) × ((DerivesSome (decode b) A → ⊥) ⊎ (Reached (decode b) A → ⊥)))
+      go (inl q) = absurd (omega (arith, q .1))
+      go (inr (f, inl q)) = absurd (omega (arith, q .1))
+      go (inr (f, inr (r, inl q))) = (sound range f r, dead-symbol (decode b) (q .0))
+      go (inr (f, inr (r, inr q))) = absurd (omega (arith, q .1))
 
   -- an accepted image is at most 2,315 bytes long
   pub accepted-short : Accepted b → length b ≤ longestImage

@@ -14,9 +14,9 @@ use Rattle.bits.specs.Truth.{same}
 use Rattle.layout.specs.Layout.{headerBytes, byteAt, wordAt, quietIn, decode, Sized}
 use Rattle.layout.proofs.Decoded.{rules-from-low}
 use Rattle.image.specs.Image.{Marked, Versioned, Ranged, byteRows, ruleRows, imageRows, Names, TestedIs, longestImage}
-use Rattle.image.proofs.Refusals.{alone, under}
-use Rattle.image.proofs.Named.{names-before}
-use Rattle.image.proofs.Images.{tested-accepted, accepted-short}
+use Rattle.image.proofs.Refusals.{alone}
+use Rattle.image.proofs.Named.{names-none}
+use Rattle.image.proofs.Images.{bytes-other, tested-accepted, accepted-short}
 
 -- two tables, row by row: where a demand holds in both the rest decides
 carry : {k n : ℕ} {P Q : Type 0} {rows more : List Row} → (P → Q) → (Q → P) → (P → First rows n → First more n)
@@ -79,8 +79,8 @@ begins-alike b d n l m e p =
 -- they are refused by their bytes, and so no rule is named
 pub long-names : (b : List ℕ) (n r : ℕ) → longestImage < length b → First (imageRows b) n → Names (decode b) n r → {g : Grammar} → Names g n r
 long-names b n r l p m =
-    let s = under 6 (byteRows b) n (omega arith) (alone (byteRows b) (ruleRows (decode b)) n (λ h. not-sized b l (h .1 .1 .1 .0) (h .1 .1 .1 .1 .0)) p) in
-    names-before s (m .other (λ e. omega arith) (λ e. omega arith))
+    let o = bytes-other b n (alone (byteRows b) (ruleRows (decode b)) n (λ h. not-sized b l (h .1 .1 .1 .0) (h .1 .1 .1 .1 .0)) p) in
+    names-none (o .0) (o .1) (m .other (o .0) (o .1))
 
 -- nobody need read more than 2,316 bytes of an image: the test of those is the test of all
 pub first-bytes : (b : List ℕ) (t : Tested) → longestImage < length b

@@ -5,7 +5,7 @@ use native.Mathlib.Nat.{eq-or-lt-of-le}
 use native.Mathlib.Decide.{ℕ-discrete}
 use native.Mathlib.Omega.{arith}
 use mathlib.Core.Path.{_≡_, refl, sym, _∙_, subst}
-use mathlib.Core.Logic.{⊎-elim}
+use mathlib.Core.Logic.{_≢_, ⊎-elim}
 use Rattle.bits.proofs.Truths.{lt-or-ge}
 use Rattle.derivation.specs.Grammar.{Grammar, ruleCount}
 use Rattle.derivation.specs.Sound.{SymbolsFit, Rises}
@@ -28,12 +28,15 @@ names-only {g} {n} {r} {s} p q = elim (ℕ-discrete n 6) [
 pub names-same : {g : Grammar} {n k r s : ℕ} → n ≡ k → Names g n r → Names g k s → r ≡ s
 names-same {g} {n} {k} {r} {s} e p q = names-only (subst (λ (x : ℕ). Names g x r) e p) q
 
--- ---- which: none with a number before 6 or behind 7, and with these two the first fault
+-- ---- which: with 6 and 7 the first fault, and none with any other number, such as one before 6 or behind 7
+pub names-none : {g : Grammar} {n r : ℕ} → n ≢ 6 → n ≢ 7 → r ≡ 0 → Names g n r
+names-none a b z = record { unfit = λ e. absurd (a e); low = λ e. absurd (b e); other = λ _ _. z }
+
 pub names-before : {g : Grammar} {n r : ℕ} → n < 6 → r ≡ 0 → Names g n r
-names-before l z = record { unfit = λ e. absurd (omega arith); low = λ e. absurd (omega arith); other = λ _ _. z }
+names-before l = names-none (λ e. omega arith) (λ e. omega arith)
 
 pub names-behind : {g : Grammar} {n r : ℕ} → 7 < n → r ≡ 0 → Names g n r
-names-behind l z = record { unfit = λ e. absurd (omega arith); low = λ e. absurd (omega arith); other = λ _ _. z }
+names-behind l = names-none (λ e. omega arith) (λ e. omega arith)
 
 pub names-unfit : {g : Grammar} {r : ℕ} → FirstFault (ruleCount g) (SymbolsFit g) r → Names g 6 r
 names-unfit f = record { unfit = λ _. f; low = λ e. absurd (omega arith); other = λ a _. absurd (a refl) }

@@ -34,14 +34,17 @@ abbrev pub AllHold : List Row → Type 0
 AllHold [] = Unit {0}
 AllHold ((k unless P) ∷ rows) = P × AllHold rows
 
--- no row has the number 0
+-- no row has the number n
+abbrev pub Lacks : ℕ → List Row → Type 0
+Lacks n [] = Unit {0}
+Lacks n ((k unless P) ∷ rows) = (n ≢ k) × Lacks n rows
+
 abbrev pub Positive : List Row → Type 0
-Positive [] = Unit {0}
-Positive ((k unless P) ∷ rows) = (0 < k) × Positive rows
+Positive rows = Lacks 0 rows
 
 pub first-zero : (rows : List Row) → Positive rows → FirstOf rows 0 → AllHold rows
 first-zero [] z p = tt
-first-zero ((k unless P) ∷ rows) z (inl p) = absurd (lt-irrefl 0 (rw (← (p .1)) at (z .0)))
+first-zero ((k unless P) ∷ rows) z (inl p) = absurd (z .0 (p .1))
 first-zero ((k unless P) ∷ rows) z (inr p) = (p .0, first-zero rows (z .1) (p .1))
 
 -- the number 0 says that every demand holds
@@ -77,17 +80,17 @@ first-pass rows more {n} h p = record { is = past rows more n h (p .is) }
 pub past-zero : (rows more : List Row) → Positive rows → (r : ℕ) → r ≡ 0 → First rows r → {m : ℕ} → First more m → First (rows ++ more) m
 past-zero rows more z r e p q = first-pass rows more (all-hold rows z r e p) q
 
--- the answer 0 of both is the answer 0 of each
-zeros : (rows more : List Row) → Positive rows → FirstOf (rows ++ more) 0 → FirstOf rows 0 × FirstOf more 0
-zeros [] more z p = (refl, p)
-zeros ((k unless P) ∷ rows) more z (inl p) = absurd (omega (arith, z .0, p .1))
-zeros ((k unless P) ∷ rows) more z (inr p) = let q = zeros rows more (z .1) (p .1) in (inr (p .0, q .0), q .1)
+-- an answer that is no number of the first table comes from the second, and the first passes
+split : (rows more : List Row) (n : ℕ) → Lacks n rows → FirstOf (rows ++ more) n → FirstOf rows 0 × FirstOf more n
+split [] more n u p = (refl, p)
+split ((k unless P) ∷ rows) more n u (inl p) = absurd (u .0 (p .1))
+split ((k unless P) ∷ rows) more n u (inr p) = let q = split rows more n (u .1) (p .1) in (inr (p .0, q .0), q .1)
 
-pub early-rows : (rows more : List Row) → Positive rows → First (rows ++ more) 0 → First rows 0
-early-rows rows more z p = record { is = zeros rows more z (p .is) .0 }
+pub reached : (rows more : List Row) (n : ℕ) → Lacks n rows → First (rows ++ more) n → First rows 0
+reached rows more n u p = record { is = split rows more n u (p .is) .0 }
 
-pub late-rows : (rows more : List Row) → Positive rows → First (rows ++ more) 0 → First more 0
-late-rows rows more z p = record { is = zeros rows more z (p .is) .1 }
+pub passed : (rows more : List Row) (n : ℕ) → Lacks n rows → First (rows ++ more) n → First more n
+passed rows more n u p = record { is = split rows more n u (p .is) .1 }
 
 -- a table that does not hold decides alone
 lone : (rows more : List Row) (n : ℕ) → (AllHold rows → ⊥) → FirstOf (rows ++ more) n → FirstOf rows n
@@ -98,6 +101,15 @@ lone ((k unless P) ∷ rows) more n h (inr p) = inr (p .0, lone rows more n (λ 
 pub alone : (rows more : List Row) (n : ℕ) → (AllHold rows → ⊥) → First (rows ++ more) n → First rows n
 alone rows more n h p = record { is = lone rows more n h (p .is) }
 
+-- and no table gives a number that it lacks
+gives : (rows : List Row) (n : ℕ) → n ≢ 0 → Lacks n rows → FirstOf rows n → ⊥
+gives [] n z u p = z p
+gives ((k unless P) ∷ rows) n z u (inl p) = u .0 (p .1)
+gives ((k unless P) ∷ rows) n z u (inr p) = gives rows n z (u .1) (p .1)
+
+pub never : (rows : List Row) (n : ℕ) → n ≢ 0 → Lacks n rows → First rows n → ⊥
+never rows n z u p = gives rows n z u (p .is)
+
 -- behind the same rows
 follow : (rows more rest : List Row) (n : ℕ) → (FirstOf more n → FirstOf rest n) → FirstOf (rows ++ more) n → FirstOf (rows ++ rest) n
 follow [] more rest n f p = f p
@@ -106,26 +118,3 @@ follow ((k unless P) ∷ rows) more rest n f (inr p) = inr (p .0, follow rows mo
 
 pub behind : (rows more rest : List Row) (n : ℕ) → (FirstOf more n → FirstOf rest n) → First (rows ++ more) n → First (rows ++ rest) n
 behind rows more rest n f p = record { is = follow rows more rest n f (p .is) }
-
--- ---- which numbers a table can give
--- every number of a table is below m
-abbrev pub Under : ℕ → List Row → Type 0
-Under m [] = 0 < m
-Under m ((k unless P) ∷ rows) = (k < m) × Under m rows
-
-lower : (m : ℕ) (rows : List Row) (n : ℕ) → Under m rows → FirstOf rows n → n < m
-lower m [] n u p = omega (arith, p)
-lower m ((k unless P) ∷ rows) n u (inl p) = omega (arith, p .1, u .0)
-lower m ((k unless P) ∷ rows) n u (inr p) = lower m rows n (u .1) (p .1)
-
-pub under : (m : ℕ) (rows : List Row) (n : ℕ) → Under m rows → First rows n → n < m
-under m rows n u p = lower m rows n u (p .is)
-
--- an answer that is not a number of the first table comes from the second
-gone : (rows more : List Row) (n m : ℕ) → Under m rows → Positive rows → (n ≡ 0) ⊎ (m ≤ n) → FirstOf (rows ++ more) n → FirstOf rows 0
-gone [] more n m u z h p = refl
-gone ((k unless P) ∷ rows) more n m u z h (inl p) = absurd (⊎-elim (λ (e : n ≡ 0). omega (arith, z .0, p .1)) (λ (l : m ≤ n). omega (arith, u .0, p .1)) h)
-gone ((k unless P) ∷ rows) more n m u z h (inr p) = inr (p .0, gone rows more n m (u .1) (z .1) h (p .1))
-
-pub reached : (rows more : List Row) (n m : ℕ) → Under m rows → Positive rows → (n ≡ 0) ⊎ (m ≤ n) → First (rows ++ more) n → First rows 0
-reached rows more n m u z h p = record { is = gone rows more n m u z h (p .is) }

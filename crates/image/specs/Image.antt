@@ -8,6 +8,7 @@ use lib.ListN.{length}
 use Rattle.bits.specs.Truth.{Every}
 use Rattle.derivation.specs.Grammar.{Grammar, leafCount, pairCount, ruleCount}
 use Rattle.derivation.specs.Sound.{mostLeaves, mostPairs, InRange, SymbolsFit, Rises, Sound}
+use Rattle.derivation.specs.Live.{Live}
 use Rattle.rules.specs.Fault.{FirstFault}
 use Rattle.image.specs.Refusal.{Row, _unless_, First}
 use Rattle.layout.specs.Layout.{headerBytes, byteAt, versionIn, symbolsIn, leavesIn, pairsIn, quietIn, Sized, Whole, decode}
@@ -47,16 +48,17 @@ abbrev pub ruleRows : Grammar → List Row
 ruleRows g =
     (6 unless Every (ruleCount g) (SymbolsFit g))
     ∷ (7 unless Every (ruleCount g) (Rises g))
+    ∷ (15 unless Every (g .symbols) (Live g))
     ∷ []
 
 abbrev pub eventRows : ℕ → List Row
 eventRows n = (8 unless (n ≤ mostEvents)) ∷ []
 
--- refusals 1 to 7, of any image
+-- refusals 1 to 7 and 15, of any image
 abbrev pub imageRows : List ℕ → List Row
 imageRows b = byteRows b ++ ruleRows (decode b)
 
--- refusals 1 to 8, of any image and any number of events: every service that takes a record begins with these
+-- these and then 8, of any image and any number of events: every service that takes a record begins with them
 abbrev pub recordRows : List ℕ → ℕ → List Row
 recordRows b n = imageRows b ++ eventRows n
 
@@ -87,12 +89,13 @@ pub record TestedIs (rows : List Row) (g : Grammar) (t : Tested) : Type 0 where
   pub accepted : t .number ≡ 0 → GivesCounts t g
   pub refused : t .number ≢ 0 → Gives t 0 0 0
 
--- ---- what 1 to 7 let pass, neither more nor less
+-- ---- what 1 to 7 and 15 let pass, neither more nor less
 pub record Accepted (b : List ℕ) : Type 0 where
   pub marked : Marked b
   pub version : Versioned b
   pub whole : Whole b
   pub sound : Sound (decode b)
+  pub live : Every (decode b .symbols) (Live (decode b))
 
 -- the longest image that is accepted, one of version 2
 abbrev pub longestImage : ℕ

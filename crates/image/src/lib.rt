@@ -1,4 +1,4 @@
-// The grammar image: its test by refusals 1 to 7, and the test that every service over a record begins with.
+// The grammar image: its test by refusals 1 to 7 and 15, and the test that every service over a record begins with.
 mod refuse; // the rows of the refusal table
 
 ghost use mathlib.Core.Path.{_≡_};
@@ -58,7 +58,7 @@ fn accepted(image: &[u8]) -> Tested
     }
 }
 
-// Tests a grammar image: refusals 1 to 7.
+// Tests a grammar image: refusals 1 to 7 and 15.
 pub fn test_image(image: &[u8]) -> Tested
     ensures { λ t. ⌜ TestedIs (imageRows (now (image .entry))) (decode (now (image .entry))) t ⌝ }
 {
@@ -74,7 +74,7 @@ pub fn test_image(image: &[u8]) -> Tested
     accepted(image)
 }
 
-// Tests a grammar image and a number of events: refusals 1 to 8.
+// Tests a grammar image and a number of events: refusals 1 to 7, 15 and 8.
 pub fn test_record(image: &[u8], events: usize) -> Tested
     ensures { λ t. ⌜ TestedIs (recordRows (now (image .entry)) events) (decode (now (image .entry))) t ⌝ }
 {

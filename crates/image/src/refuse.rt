@@ -110,7 +110,7 @@ pub fn byte_refusal(image: &[u8]) -> u8
     0
 }
 
-// Refusals 6 and 7 with the first rule at fault, or 0.
+// Refusals 6 and 7 with the first rule at fault, 15, or 0.
 pub fn rule_refusal(image: &[u8]) -> Refusal
     requires { ⌜ Whole (now image) × Ranged (now image) ⌝ }
     ensures { λ r. ⌜ RefusalIs (ruleRows (decode (now (image .entry)))) (decode (now (image .entry))) r ⌝ }
@@ -125,6 +125,13 @@ pub fn rule_refusal(image: &[u8]) -> Refusal
     if low < count {
         let rule = low as u16;
         return Refusal { number: 7, rule };
+    }
+    let live = live::all_live(image);
+    if !live {
+        return Refusal {
+            number: 15,
+            rule: 0,
+        };
     }
     Refusal { number: 0, rule: 0 }
 }

@@ -19,7 +19,7 @@ use Rattle.derivation.proofs.Numbering.{readings-numbered}
 use Rattle.derivation.proofs.Readings.{spelling-length}
 use Rattle.layout.specs.Layout.{decode}
 use Rattle.image.specs.Refusal.{First}
-use Rattle.image.proofs.Refusals.{none as passed, pass, first-only, past-zero, early-rows, late-rows}
+use Rattle.image.proofs.Refusals.{none, pass, first-only, past-zero, reached, passed}
 use Rattle.table.specs.Table.{limit}
 use Rattle.bits.proofs.Truths.{lt-or-ge}
 use Rattle.readings.specs.declared.Read.{Read}
@@ -35,18 +35,18 @@ module _ (b w : List ℕ) where
       → k < howMany (decode b) w → k < limit → ReadingIs b w k table room r t o → r .number ≡ 0
   each k table room r t o h l m p =
       first-only (p .number)
-      (past-zero (lentRows b (length w) (length table) (length room)) _ (omega arith) 0 refl h (pass (inl l) (pass (λ y. omega (arith, y .last)) passed)))
+      (past-zero (lentRows b (length w) (length table) (length room)) _ (omega arith) 0 refl h (pass (inl l) (pass (λ y. omega (arith, y .last)) none)))
 
   module _ (k : ℕ) (o : List ℕ) (a : Gave b w k o) where
     first : First (lentRows b (length w) (length (a .table)) (length (a .room))) 0
     first =
-        early-rows (lentRows b (length w) (length (a .table)) (length (a .room))) (numberRows k (howMany (decode b) w)) (omega arith)
+        reached (lentRows b (length w) (length (a .table)) (length (a .room))) (numberRows k (howMany (decode b) w)) 0 (omega arith)
         (rw (a .success) at (a .is .number))
 
     below : k < howMany (decode b) w
     below =
         number-ok k _ 0 refl
-        (late-rows (lentRows b (length w) (length (a .table)) (length (a .room))) (numberRows k (howMany (decode b) w)) (omega arith) (rw (a .success) at (a .is .number)))
+        (passed (lentRows b (length w) (length (a .table)) (length (a .room))) (numberRows k (howMany (decode b) w)) 0 (omega arith) (rw (a .success) at (a .is .number)))
         (a .small) .0
 
     -- what is written is the script of reading k

@@ -1,6 +1,6 @@
 -- The refusal tables of count and reading: what the answer 0 gives, and which numbers the refusals 12 and 13 leave.
 -- Assumes nothing.
-use mathlib.Core.Path.{_≡_, refl}
+use mathlib.Core.Path.{_≡_, refl, sym, subst}
 use mathlib.Core.Logic.{_⊎_, inl, inr, _≢_, ⊎-elim}
 use mathlib.Core.List.{List, _++_}
 use Prim.Native.Nat.{ℕ, _≤_, _<_}
@@ -11,7 +11,7 @@ use Rattle.derivation.specs.Tree.{scriptWords}
 use Rattle.layout.specs.Layout.{decode}
 use Rattle.image.specs.Refusal.{Row, FirstOf, First}
 use Rattle.image.specs.Image.{mostEvents, recordRows, Names, Accepted}
-use Rattle.image.proofs.Refusals.{AllHold, none, fail, pass, all-hold, all-front, all-back, early-rows, under, reached}
+use Rattle.image.proofs.Refusals.{AllHold, Lacks, none, fail, pass, all-hold, all-front, all-back, reached, never}
 use Rattle.image.proofs.Named.{names-before, names-behind}
 use Rattle.image.proofs.Images.{record-holding}
 use Rattle.table.specs.Table.{limit, held, tableWords}
@@ -44,18 +44,20 @@ module _ (b : List ℕ) (n size : ℕ) where
         record { count = count-holds (all-front (countRows b n size) (roomRows n space) h); fits = all-back (countRows b n size) (roomRows n space) h .0 }
 
     pub lent-record : First (lentRows b n size space) 0 → First (recordRows b n) 0
-    lent-record p = early-rows (recordRows b n) (tableRows b n size) (omega arith) (early-rows (countRows b n size) (roomRows n space) (omega arith) p)
+    lent-record p = reached (recordRows b n) (tableRows b n size) 0 (omega arith) (reached (countRows b n size) (roomRows n space) 0 (omega arith) p)
 
     -- none of these refusals leaves a table filled, and one that does comes from behind them
+    fills-lack : (r : ℕ) → Fills r → Lacks r (lentRows b n size space)
+    fills-lack r h =
+        let lacks : (m : ℕ) → Lacks m (lentRows b n size space) → r ≡ m → Lacks r (lentRows b n size space)
+        = λ m l e. subst (λ (k : ℕ). Lacks k (lentRows b n size space)) (sym e) l in
+        ⊎-elim (lacks 0 (omega arith)) (⊎-elim (lacks 12 (omega arith)) (lacks 13 (omega arith))) h
+
     pub lent-keeps : (r : ℕ) → r ≢ 0 → First (lentRows b n size space) r → Fills r → ⊥
-    lent-keeps r z p h =
-        let l = under 12 (lentRows b n size space) r (omega arith) p in
-        ⊎-elim z (⊎-elim (λ (e : r ≡ 12). omega arith) (λ (e : r ≡ 13). omega arith)) h
+    lent-keeps r z p h = never (lentRows b n size space) r z (fills-lack r h) p
 
     pub lent-past : (more : List Row) (r : ℕ) → Fills r → First (lentRows b n size space ++ more) r → First (lentRows b n size space) 0
-    lent-past more r h p =
-        reached (lentRows b n size space) more r 12 (omega arith) (omega arith)
-        (⊎-elim inl (⊎-elim (λ (e : r ≡ 12). inr (omega arith)) (λ (e : r ≡ 13). inr (omega arith))) h) p
+    lent-past more r h p = reached (lentRows b n size space) more r (fills-lack r h) p
 
 -- ---- refusals 12 and 13, from the number of readings held at the limit
 module _ (k t m : ℕ) (e : t ≡ held m) where

@@ -1,0 +1,82 @@
+-- Of every symbol it is decided whether it lives: each of the two laws is a least set of clauses, one for each event rule and one or two for each pair
+-- rule.
+-- Assumes nothing.
+use mathlib.Core.Logic.{_⊎_, inl, inr, Dec·and}
+use mathlib.Core.List.{List, [], _∷_, _++_, map}
+use Prim.Native.Nat.{ℕ, _<_}
+use Rattle.bits.specs.Truth.{Every}
+use Rattle.bits.proofs.Decisions.{dec-as, some-fails}
+use Rattle.derivation.specs.Grammar.{EventRule, PairRule, Grammar}
+use Rattle.derivation.specs.Live.{DerivesSome, Reached, Live}
+use Rattle.derivation.proofs.Least.{Clause, AllStay, stay-both, stay-front, stay-back, stay-each, stay-at, decided}
+use Rattle.derivation.proofs.Live.{Upward, Downward, derives-upward, derives-least, reached-downward, reached-least}
+
+-- ---- the clauses
+abbrev pub ofEvent : EventRule → Clause
+ofEvent q = record { needs = []; gives = q .symbol }
+
+abbrev pub ofParts : PairRule → Clause
+ofParts q = record { needs = q .left ∷ q .right ∷ []; gives = q .symbol }
+
+abbrev pub toLeft : PairRule → Clause
+toLeft q = record { needs = q .symbol ∷ []; gives = q .left }
+
+abbrev pub toRight : PairRule → Clause
+toRight q = record { needs = q .symbol ∷ []; gives = q .right }
+
+module _ (g : Grammar) where
+  unfoldable pub upClauses : List Clause
+  upClauses = map ofEvent (g .leaves) ++ map ofParts (g .pairs)
+
+  unfoldable pub downClauses : List Clause
+  downClauses = record { needs = []; gives = 0 } ∷ map toLeft (g .pairs) ++ map toRight (g .pairs)
+
+  -- ---- they say what the laws say
+  module _ (In : ℕ → Type 0) where
+    pub up-stays : Upward g In → AllStay In upClauses
+    unfolding upClauses
+    up-stays u =
+        stay-both In (map ofEvent (g .leaves)) (map ofParts (g .pairs))
+        (stay-each In ofEvent _ (g .leaves) (λ r l _. u .event r l))
+        (stay-each In ofParts _ (g .pairs) (λ b l n. u .pair b l (n .0) (n .1 .0)))
+
+    pub stays-up : AllStay In upClauses → Upward g In
+    unfolding upClauses
+    stays-up p = record {
+      event = λ r l. stay-at In ofEvent _ (g .leaves) (stay-front In (map ofEvent (g .leaves)) (map ofParts (g .pairs)) p) r l tt;
+      pair = λ b l x y. stay-at In ofParts _ (g .pairs) (stay-back In (map ofEvent (g .leaves)) (map ofParts (g .pairs)) p) b l (x, (y, tt));
+    }
+
+    pub down-stays : Downward g In → AllStay In downClauses
+    unfolding downClauses
+    down-stays d = (
+      λ _. d .start,
+      stay-both In (map toLeft (g .pairs)) (map toRight (g .pairs))
+          (stay-each In toLeft _ (g .pairs) (λ b l n. d .left b l (n .0)))
+          (stay-each In toRight _ (g .pairs) (λ b l n. d .right b l (n .0))),
+    )
+
+    pub stays-down : AllStay In downClauses → Downward g In
+    unfolding downClauses
+    stays-down p = record {
+      start = p .0 tt;
+      left = λ b l x. stay-at In toLeft _ (g .pairs) (stay-front In (map toLeft (g .pairs)) (map toRight (g .pairs)) (p .1)) b l (x, tt);
+      right = λ b l x. stay-at In toRight _ (g .pairs) (stay-back In (map toLeft (g .pairs)) (map toRight (g .pairs)) (p .1)) b l (x, tt);
+    }
+
+  -- ---- the decisions
+  unfoldable pub derives? : (A : ℕ) → Dec (DerivesSome g A)
+  derives? = decided (DerivesSome g) upClauses (up-stays (DerivesSome g) (derives-upward g)) (λ In p. derives-least g In (stays-up In p))
+
+  unfoldable pub reached? : (A : ℕ) → Dec (Reached g A)
+  reached? = decided (Reached g) downClauses (down-stays (Reached g) (reached-downward g)) (λ In p. reached-least g In (stays-down In p))
+
+  unfoldable pub live? : (A : ℕ) → Dec (Live g A)
+  live? A =
+      dec-as (λ p. record { derives = p .0; reached = p .1 }) (λ l. (l .derives, l .reached)) (Dec·and (derives? A) (reached? A))
+
+  -- where not every symbol lives, one of them derives no events or cannot be reached
+  pub dead-symbol : (Every (g .symbols) (Live g) → ⊥) → (A : ℕ) × (A < g .symbols) × ((DerivesSome g A → ⊥) ⊎ (Reached g A → ⊥))
+  dead-symbol f =
+      let s = some-fails (g .symbols) (Live g) live? f in
+      (s .0, s .1, elim (derives? (s .0)) [ yes d ↦ inr (λ r. s .2 (record { derives = d; reached = r })) | no d ↦ inl d ])
