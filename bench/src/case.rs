@@ -1,7 +1,7 @@
 //! A call whose outcome is known, and the comparison of both sides in it.
 
 use crate::answers::Refusal;
-use crate::grammars::{flagged, stop};
+use crate::grammars::{flagged, image, stop, stop_and};
 use crate::records::{Input, Words};
 use std::fmt::Debug;
 
@@ -105,7 +105,7 @@ where
     assert!(ours == plain, "{name}: the words");
 }
 
-/// Refusals 1 to 8, which every service gives: each image or record is at fault in what its number
+/// Refusals 1 to 7, 15 and 8, which every service gives: each image or record is at fault in what its number
 /// names, 6 and 7 in the rule that is given. They come before the refusals for too little room, so they are given with and without it.
 pub fn at_fault<A: From<Refusal>>() -> Vec<Case<A>> {
     let spoiled = |at: usize, byte: u8| {
@@ -127,6 +127,10 @@ pub fn at_fault<A: From<Refusal>>() -> Vec<Case<A>> {
         (6, 6, spoiled(30, 6), 3),
         (6, 6, flagged(&spoiled(30, 6), 1), 3),
         (7, 1, twice, 3),
+        (15, 0, stop_and(7, &[], &[[3, 4, 6]]), 3),
+        (15, 0, stop_and(7, &[], &[[3, 4, 6], [6, 2, 6]]), 97),
+        (15, 0, stop_and(7, &[(6, 1)], &[]), 3),
+        (15, 0, flagged(&image(1, &[], &[]), 1), 0),
         (8, 0, stop(), 97),
     ];
     let case = |(number, rule, image, events)| {

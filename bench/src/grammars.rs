@@ -94,7 +94,12 @@ pub fn two_chains() -> Vec<u8> {
 
 /// Symbols: 0 day, 1 stop, 2 press, 3 tail, 4 relay, 5 reset.
 pub fn stop() -> Vec<u8> {
-    let leaves = [(2, 1), (4, 2), (5, 3)];
-    let pairs = [[0, 1, 0], [0, 2, 3], [1, 2, 3], [3, 4, 5]];
-    image(6, &leaves, &pairs)
+    stop_and(6, &[], &[])
+}
+
+/// STOP with that many symbols and with more rules.
+pub fn stop_and(symbols: u8, leaves: &[(u8, u16)], pairs: &[[u8; 3]]) -> Vec<u8> {
+    let leaves = [&[(2, 1), (4, 2), (5, 3)], leaves].concat();
+    let pairs = [&[[0, 1, 0], [0, 2, 3], [1, 2, 3], [3, 4, 5]], pairs].concat();
+    image(symbols, &leaves, &pairs)
 }

@@ -23,7 +23,7 @@ struct Grammar<'a> {
     pairs: &'a [u8],
 }
 
-/// Refusals 1 to 8, in their order.
+/// Refusals 1 to 7, 15 and 8, in their order.
 fn test<'a>(image: &'a [u8], events: &[u16]) -> Result<Grammar<'a>, Refusal> {
     let grammar = test_image(image)?;
     if events.len() > MOST_EVENTS {
@@ -63,6 +63,9 @@ fn test_image(image: &[u8]) -> Result<Grammar<'_>, Refusal> {
     if let Some(rule) = first_low(leaves, pairs) {
         return Err(Refusal { number: 7, rule });
     }
+    if !all_live(leaves, pairs, symbols) {
+        return Err(15.into());
+    }
     Ok(Grammar {
         symbols: symbols as usize,
         quiet: flag == 1,
@@ -97,6 +100,35 @@ fn first_not_rising(rules: &[u8], key: fn(&[u8]) -> [u8; 3]) -> Option<usize> {
     let next = rules.chunks_exact(3).skip(1);
     let mut pairs = rules.chunks_exact(3).zip(next);
     Some(1 + pairs.position(|(a, b)| key(a) >= key(b))?)
+}
+
+/// Whether every symbol derives some events and can be reached from symbol 0.
+fn all_live(leaves: &[u8], pairs: &[u8], symbols: u8) -> bool {
+    let all = u64::MAX >> (64 - symbols);
+    let own = |rule: &[u8]| 1 << rule[0];
+    let parts = |rule: &[u8]| 1 << rule[1] | 1 << rule[2];
+    let by_events = leaves.chunks_exact(3).fold(0, |set, rule| set | own(rule));
+    closed(by_events, pairs, parts, own) == all && closed(1, pairs, own, parts) == all
+}
+
+/// The least set that has the given one, and what a rule adds where it has all that the rule needs.
+fn closed(
+    mut set: u64,
+    pairs: &[u8],
+    needs: impl Fn(&[u8]) -> u64,
+    adds: impl Fn(&[u8]) -> u64,
+) -> u64 {
+    loop {
+        let before = set;
+        for rule in pairs.chunks_exact(3) {
+            if needs(rule) & !set == 0 {
+                set |= adds(rule);
+            }
+        }
+        if set == before {
+            return set;
+        }
+    }
 }
 
 /// The number of a cell in chart and table.

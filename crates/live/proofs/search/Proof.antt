@@ -4,8 +4,9 @@
 use Prim.Native.Nat.{_-_, _^_}
 use native.Mathlib.Omega.{arith}
 use borrow.Author.Needs.{needs}
+use mathlib.Core.Path.{subst⁻¹}
 use Rattle.layout.specs.Layout.{decode}
-use Rattle.live.specs.Search.{Starts}
+use Rattle.live.specs.Search.{Meets, Starts, Exactly}
 use Rattle.live.proofs.Searches.{exactly, covers-more}
 use Rattle.live.proofs.search.Statement.{statement}
 use Rattle.live.proofs.search.Tie as tie
@@ -26,7 +27,10 @@ with-rules-requires : tie.Need-with-rules-requires Inv-loop μ-loop
 with-rules-requires c κs = search needs
 
 returns : tie.Need-returns Inv-loop μ-loop
-returns c = exactly _ _ _ (c .before .before .loop .inv) (c .before .with-rules .ensures .ended (c .if1 .taken))
+returns c =
+    let s = c .before .before .before .before .before .args in
+    subst⁻¹ (Exactly (Meets (s .sought) (decode (s .image .now)))) (c .if1 .taken)
+    (exactly _ _ _ (c .before .before .loop .inv) (c .before .with-rules .ensures .ended (c .if1 .taken)))
 
 loop-less : tie.Need-loop-less Inv-loop μ-loop
 loop-less c = omega (arith, c .before .with-rules .ok, c .before .with-rules .ensures .larger)
