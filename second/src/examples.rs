@@ -1,7 +1,6 @@
 //! Images for the tests and the comparisons.
 
-use crate::image::header_bytes;
-use crate::random::Random;
+use crate::image::{decode, header_bytes, Grammar};
 
 /// A version 1 image of these rules; each kind is put in order here, and of equal rules one is kept.
 pub fn image(symbols: u8, event_rules: &[(u8, u16)], pair_rules: &[(u8, u8, u8)]) -> Vec<u8> {
@@ -24,9 +23,25 @@ pub fn image(symbols: u8, event_rules: &[(u8, u16)], pair_rules: &[(u8, u8, u8)]
     image
 }
 
+/// The version 1 image of a grammar's rules, put in order.
+pub fn image_of(grammar: &Grammar) -> Vec<u8> {
+    let event_rules = grammar.event_rules.iter();
+    let event_rules: Vec<_> = event_rules.map(|r| (r.symbol as u8, r.event)).collect();
+    let pair_rules = grammar.pair_rules.iter();
+    let pair_rules: Vec<_> = pair_rules
+        .map(|r| (r.symbol as u8, r.left as u8, r.right as u8))
+        .collect();
+    image(grammar.symbols as u8, &event_rules, &pair_rules)
+}
+
 /// A version 1 image, refused or not but of ten bytes or more, in version 2 with this flag.
 pub fn version_2(image: &[u8], flag: u8) -> Vec<u8> {
     [&image[..3], &[2, 0], &image[5..10], &[flag], &image[10..]].concat()
+}
+
+/// The version 1 image as it is, and in version 2 with both flags.
+pub fn in_every_way(image: &[u8]) -> [Vec<u8>; 3] {
+    [image.to_vec(), version_2(image, 0), version_2(image, 1)]
 }
 
 /// CHAIN: as many readings as there are ways to put brackets.
@@ -34,11 +49,46 @@ pub fn chain() -> Vec<u8> {
     image(1, &[(0, 7)], &[(0, 0, 0)])
 }
 
-/// STOP: 0 day, 1 stop, 2 press, 3 tail, 4 relay, 5 reset.
+/// The rules of STOP: 0 day, 1 stop, 2 press, 3 tail, 4 relay, 5 reset.
+pub const STOP_EVENTS: [(u8, u16); 3] = [(2, 1), (4, 2), (5, 3)];
+pub const STOP_PAIRS: [(u8, u8, u8); 4] = [(0, 1, 0), (0, 2, 3), (1, 2, 3), (3, 4, 5)];
+
 pub fn stop() -> Vec<u8> {
-    let event_rules = [(2, 1), (4, 2), (5, 3)];
-    let pair_rules = [(0, 1, 0), (0, 2, 3), (1, 2, 3), (3, 4, 5)];
-    image(6, &event_rules, &pair_rules)
+    image(6, &STOP_EVENTS, &STOP_PAIRS)
+}
+
+/// STOP with one symbol misspelt: the tail is a relay and symbol 6, which nothing is said of. No
+/// tail, stop or day can be finished any more, and nothing leads to a reset.
+pub fn misspelt() -> Vec<u8> {
+    let mut pair_rules = STOP_PAIRS;
+    pair_rules[3] = (3, 4, 6);
+    image(7, &STOP_EVENTS, &pair_rules)
+}
+
+/// So many symbols, and few rules for as many: every symbol turns into 7, and the first into itself
+/// and any. With one symbol it is CHAIN.
+pub fn wide(symbols: u8) -> Vec<u8> {
+    let event_rules: Vec<_> = (0..symbols).map(|a| (a, 7)).collect();
+    let pair_rules: Vec<_> = (0..symbols).map(|a| (0, 0, a)).collect();
+    image(symbols, &event_rules, &pair_rules)
+}
+
+/// So many symbols in the order of their numbers, and in the other order but 0 first.
+pub fn orders(symbols: u8) -> [Vec<u8>; 2] {
+    let rising = (0..symbols).collect();
+    let falling = [0].into_iter().chain((1..symbols).rev()).collect();
+    [rising, falling]
+}
+
+/// Symbols one below the other, in any order that begins with 0: each turns into the next twice, or
+/// into the next and the one at `leaf`, and the last into the first. Only the one at `leaf` turns
+/// into an event, 7. So no symbol is dead, though all others derive something by the next alone.
+pub fn ring(order: &[u8], leaf: usize, next_twice: bool) -> Vec<u8> {
+    let followed = order.iter().zip(order.iter().cycle().skip(1));
+    let pair_rules: Vec<_> = followed
+        .map(|(&a, &next)| (a, next, if next_twice { next } else { order[leaf] }))
+        .collect();
+    image(order.len() as u8, &[(order[leaf], 7)], &pair_rules)
 }
 
 /// As many symbols and rules as there may be. Every symbol turns into each of the events 0 to 7 and
@@ -47,6 +97,31 @@ pub fn largest() -> Vec<u8> {
     let event_rules: Vec<_> = (0..512).map(|r| ((r / 8) as u8, r % 8)).collect();
     let pair_rules: Vec<_> = (0..=255).map(|r| (r / 4, r % 64, r / 8 + 7)).collect();
     image(64, &event_rules, &pair_rules)
+}
+
+/// As large, but nothing leads to the last symbol, except from itself.
+pub fn largest_unreached() -> Vec<u8> {
+    let mut grammar = decode(&largest()).expect("an accepted image");
+    for rule in &mut grammar.pair_rules {
+        if rule.symbol != 63 && rule.left == 63 {
+            rule.left = 0;
+        }
+    }
+    image_of(&grammar)
+}
+
+/// As large, but the last symbol turns into nothing that it isn't a part of.
+pub fn largest_barren() -> Vec<u8> {
+    let mut grammar = decode(&largest()).expect("an accepted image");
+    for rule in grammar.event_rules.iter_mut().filter(|r| r.symbol == 63) {
+        rule.symbol = 0;
+        rule.event += 8;
+    }
+    for rule in grammar.pair_rules.iter_mut().filter(|r| r.symbol == 63) {
+        rule.right = rule.left;
+        rule.left = 63;
+    }
+    image_of(&grammar)
 }
 
 /// BINARY: a record of zeros and ones has as many readings as the number that it writes, so that
@@ -79,30 +154,4 @@ pub fn faulty(mut image: Vec<u8>, unknown: &[usize], repeated: &[usize]) -> Vec<
         image[header + 3 * rule] = image[5];
     }
     image
-}
-
-pub fn any_symbol(random: &mut Random, symbols: usize) -> u8 {
-    random.below(symbols) as u8
-}
-
-/// At most so many rules; of the same drawn twice one is kept. Other events are rare.
-pub fn any_image(
-    random: &mut Random,
-    symbols: usize,
-    kinds: &[u16],
-    event_rules: usize,
-    pair_rules: usize,
-) -> Vec<u8> {
-    let any_event = |random: &mut Random| match random.below(8) {
-        0 => random.word() as u16,
-        _ => random.one_of(kinds),
-    };
-    let event_rules: Vec<_> = (0..event_rules)
-        .map(|_| (any_symbol(random, symbols), any_event(random)))
-        .collect();
-    let pair_rules: Vec<_> = (0..pair_rules)
-        .map(|_| [0; 3].map(|_| any_symbol(random, symbols)))
-        .map(|[a, b, c]| (a, b, c))
-        .collect();
-    image(symbols as u8, &event_rules, &pair_rules)
 }

@@ -1,4 +1,6 @@
-//! The grammar image: its layout in both versions, and refusals 1 to 7.
+//! The grammar image: its layout in both versions, and its refusals, 1 to 7 and 15.
+
+use crate::live::dead;
 
 /// Turns `symbol` into `event`. Rules are compared by their fields in this order.
 #[derive(Clone, Copy, Debug, PartialEq, Eq, PartialOrd, Ord)]
@@ -76,8 +78,16 @@ pub struct Refusal {
     pub rule: u16,
 }
 
-/// The grammar that the image shows, or the first refusal of 1 to 7 that applies.
+/// The grammar that the image shows, or the first refusal of 1 to 7 and 15 that applies. A flag
+/// makes no symbol live: the reading that it admits is no derivation.
 pub fn decode(image: &[u8]) -> Result<Grammar, Refusal> {
+    let grammar = well_formed(image)?;
+    refuse_if(!dead(&grammar).is_empty(), 15)?;
+    Ok(grammar)
+}
+
+/// The grammar that the image shows, or the first refusal of 1 to 7 that applies.
+pub fn well_formed(image: &[u8]) -> Result<Grammar, Refusal> {
     let grammar = shown(image)?;
     refuse_first(&grammar.rules_out_of_range(), 6)?;
     refuse_first(&grammar.rules_out_of_order(), 7)?;

@@ -3,9 +3,11 @@
 #![forbid(unsafe_code)]
 
 pub mod derive;
+pub mod drawn;
 pub mod examples;
 pub mod image;
 pub mod listing;
+pub mod live;
 pub mod random;
 pub mod readings;
 pub mod services;

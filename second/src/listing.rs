@@ -29,8 +29,8 @@ pub fn output(grammar: Option<&[u8]>, events: Option<&[u8]>) -> String {
     }
 }
 
-/// The lines of the listing, or the first refusal of 1 to 8, 14 and 10, which the program tests in
-/// this order.
+/// The lines of the listing, or the first refusal of 1 to 7, 15, 8, 14 and 10, which the program
+/// tests in this order.
 fn listing(image: &[u8], event_bytes: &[u8]) -> Result<String, Refusal> {
     let grammar = decode(image)?;
     refuse_if(event_bytes.len() > MOST_BYTES, 8)?;

@@ -113,7 +113,7 @@ pub fn check(image: &[u8], events: &[u16], script: &[u16]) -> Checked {
     }
 }
 
-/// Refusals 1 to 8, with which every service over a record begins.
+/// Refusals 1 to 7, 15 and 8, with which every service over a record begins.
 fn accept(image: &[u8], events: &[u16]) -> Result<Grammar, Refusal> {
     let grammar = decode(image)?;
     refuse_if(events.len() > MOST_EVENTS, 8)?;

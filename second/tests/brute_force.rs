@@ -1,7 +1,8 @@
 //! What is worked out quickly, beside all derivations written down one by one.
 
 use second::derive::{counts, derivable, firings, stretches};
-use second::examples::{any_image, binary, digits, image};
+use second::drawn::live_image;
+use second::examples::{binary, digits, image};
 use second::image::{decode, Grammar};
 use second::random::Random;
 use second::readings::{is_reading, listed, Readings};
@@ -32,7 +33,7 @@ fn small(random: &mut Random) -> (Grammar, Vec<u16>) {
     let symbols = random.within(1, 3);
     let kinds = &[0, 1][..random.within(1, 2)];
     let (event_rules, pair_rules) = (random.within(1, 5), random.within(1, 8));
-    let image = any_image(random, symbols, kinds, event_rules, pair_rules);
+    let image = live_image(random, symbols, kinds, event_rules, pair_rules);
     let n = random.within(1, 6);
     let events = (0..n).map(|_| random.one_of(kinds)).collect();
     (decode(&image).expect("an accepted image"), events)

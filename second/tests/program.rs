@@ -1,6 +1,7 @@
 //! The listing program's output.
 
-use second::examples::{binary, chain, digits, faulty, image, largest, stop, version_2};
+use second::examples::{binary, chain, digits, faulty, image, in_every_way, largest};
+use second::examples::{largest_barren, largest_unreached, misspelt, stop, version_2, wide};
 use second::listing::output;
 
 /// The listing of these events as a file.
@@ -27,9 +28,31 @@ fn refusals_in_their_order() {
     let refused = |image: &[u8], length| output(Some(image), Some(&vec![0; length]));
     assert_eq!(refused(b"ESG", 193), "refused 1\n");
     assert_eq!(refused(&[chain(), vec![0]].concat(), 193), "refused 5\n");
-    assert_eq!(refused(&image(64, &[], &[]), 193), "refused 8\n");
-    assert_eq!(refused(&image(64, &[], &[]), 191), "refused 14\n");
-    assert_eq!(refused(&image(64, &[], &[]), 192), "refused 10\n");
+    assert_eq!(refused(&wide(64), 193), "refused 8\n");
+    assert_eq!(refused(&wide(64), 191), "refused 14\n");
+    assert_eq!(refused(&wide(64), 192), "refused 10\n");
+}
+
+/// Whatever the flag and the event file, refused itself or not.
+#[test]
+fn dead_symbols() {
+    for dead in [
+        misspelt(),
+        image(1, &[], &[]),
+        image(64, &[], &[]),
+        largest_barren(),
+        largest_unreached(),
+    ] {
+        for image in in_every_way(&dead) {
+            for length in [0, 2, 191, 192, 193] {
+                let told = output(Some(&image), Some(&vec![0; length]));
+                assert_eq!(told, "refused 15\n");
+            }
+        }
+        assert_eq!(listed(&version_2(&dead, 2), &[]), "refused 4\n");
+    }
+    let repeated = faulty(misspelt(), &[], &[2]);
+    assert_eq!(listed(&repeated, &[1]), "refused 7 2\n");
 }
 
 /// Of 768 rules, whatever the event file; and of the two of CHAIN.
@@ -74,7 +97,7 @@ fn event_file_lengths() {
 /// The most events that the count buffer holds, and one more.
 #[test]
 fn count_buffer() {
-    let listed = |symbols, events| listed(&image(symbols, &[], &[]), &vec![0; events]);
+    let listed = |symbols, events| listed(&wide(symbols), &vec![0; events]);
     assert_eq!(listed(3, 96), "readings 0\n");
     for (symbols, events) in [(4, 90), (5, 80), (7, 67), (8, 63), (64, 22)] {
         assert_eq!(listed(symbols, events), "readings 0\n");
@@ -112,7 +135,7 @@ fn no_readings() {
 /// The line of the empty script is blank.
 #[test]
 fn quiet_shift() {
-    for image in [chain(), stop(), largest(), image(64, &[], &[])] {
+    for image in [chain(), stop(), largest(), wide(64)] {
         assert_eq!(listed(&image, &[]), "readings 0\n");
         assert_eq!(listed(&version_2(&image, 0), &[]), "readings 0\n");
         assert_eq!(listed(&version_2(&image, 1), &[]), "readings 1\n\n");

@@ -3,7 +3,7 @@
 mod refused;
 
 use refused::{every_service_refuses, image_is_refused};
-use second::examples::{chain, faulty, image, largest, stop, version_2};
+use second::examples::{chain, faulty, image, in_every_way, largest, stop, version_2};
 use second::services::{check, count, judge, reading, test};
 use second::services::{Checked, Counted, Judged, Read, Tested};
 
@@ -99,11 +99,6 @@ const RULES_AT_FAULT: [AtFault; 22] = [
     ((7, 300), &[], &[300, 301, 700]),
 ];
 
-/// The version 1 image as it is, and in version 2 with both flags.
-fn in_every_way(image: &[u8]) -> [Vec<u8>; 3] {
-    [image.to_vec(), version_2(image, 0), version_2(image, 1)]
-}
-
 #[test]
 fn first_rule_at_fault() {
     for image in in_every_way(&largest()) {
@@ -146,7 +141,7 @@ fn largest_and_smallest_images_are_accepted() {
         pair_rules,
     };
     assert_eq!(test(&largest()), told(64, 512, 256));
-    assert_eq!(test(&image(1, &[], &[])), told(1, 0, 0));
+    assert_eq!(test(&image(1, &[(0, 7)], &[])), told(1, 1, 0));
     assert_eq!(test(&stop()), told(6, 3, 4));
 }
 

@@ -4,7 +4,8 @@ mod refused;
 
 use refused::image_is_refused;
 use second::derive::cells;
-use second::examples::{any_image, chain, image, largest, stop, version_2};
+use second::drawn::{any_image, live_image};
+use second::examples::{chain, image, largest, stop, version_2};
 use second::image::decode;
 use second::random::Random;
 use second::readings::{is_reading, listed};
@@ -12,9 +13,9 @@ use second::services::{check, count, judge, reading, test};
 use second::services::{Checked, Counted, Judged, Read, Tested};
 use second::trees::script_words;
 
-/// Without rules, with few, and with as many as there may be.
+/// With one rule, with few, and with as many as there may be.
 fn version_1_images() -> [Vec<u8>; 4] {
-    [image(1, &[], &[]), chain(), stop(), largest()]
+    [image(1, &[(0, 7)], &[]), chain(), stop(), largest()]
 }
 
 /// A header of ten bytes.
@@ -103,8 +104,7 @@ fn eleven_bytes() {
     };
     for flag in [0, 1] {
         for symbols in [1, 64] {
-            assert_eq!(test(&eleven(symbols, 0, 0, flag)).number, 0);
-            assert_eq!(test(&eleven(symbols, 0, 0, flag)).symbols, symbols.into());
+            image_is_refused((15, 0), &eleven(symbols, 0, 0, flag));
         }
         for (event_rules, pair_rules) in [(1, 0), (0, 1), (512, 256)] {
             image_is_refused((5, 0), &eleven(1, event_rules, pair_rules, flag));
@@ -244,22 +244,26 @@ fn everything(image: &[u8], events: &[u16]) -> String {
     told
 }
 
-/// The flag makes a difference to an empty record alone, and to that one it does.
+/// The flag makes a difference to an empty record alone, and to that one it does unless a symbol is
+/// dead.
 #[test]
 fn twins() {
     let mut random = Random::new(4);
-    let mut admitted = 0;
+    let (mut admitted, mut dead) = (0, 0);
     for _ in 0..500 {
         let symbols = random.within(1, 3);
         let (event_rules, pair_rules) = (random.below(6), random.below(9));
-        let version_1 = any_image(&mut random, symbols, &[0, 1], event_rules, pair_rules);
+        let draw = random.one_of(&[any_image, live_image]);
+        let version_1 = draw(&mut random, symbols, &[0, 1], event_rules, pair_rules);
         let n = random.below(7);
         let events: Vec<_> = (0..n).map(|_| random.below(2) as u16).collect();
         let told = everything(&version_1, &events);
         assert_eq!(everything(&version_2(&version_1, 0), &events), told);
         let flag_1 = everything(&version_2(&version_1, 1), &events);
-        assert_eq!(flag_1 == told, n > 0);
+        let refused = test(&version_1).number == 15;
+        assert_eq!(flag_1 == told, n > 0 || refused);
         admitted += usize::from(told.contains("admitted: true"));
+        dead += usize::from(refused);
     }
-    assert!(admitted > 50, "only {admitted} admitted");
+    assert!(admitted > 50 && dead > 50, "{admitted} and {dead}");
 }

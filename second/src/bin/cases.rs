@@ -2,7 +2,11 @@
 //! run, and a line for each call: a name, and the call's arguments, parted by tabs.
 
 use second::derive::cells;
-use second::examples::{any_image, binary, chain, digits, faulty, image, largest, stop, version_2};
+use second::drawn::{any_image, live_image, with_dead, SORTS};
+use second::examples::{binary, chain, digits, faulty, image, image_of, in_every_way, largest};
+use second::examples::{largest_barren, largest_unreached, misspelt, orders, ring, stop};
+use second::examples::{version_2, wide};
+use second::image::decode;
 use second::listing::{COUNT_BUFFER, MOST_BYTES};
 use second::random::Random;
 use second::services::MOST_EVENTS;
@@ -51,6 +55,8 @@ fn main() -> io::Result<()> {
     totals(&mut cases)?;
     refused_images(&mut cases)?;
     refused_rules(&mut cases)?;
+    dead_symbols(&mut cases)?;
+    rings(&mut cases)?;
     flags(&mut cases)?;
     versions(&mut cases)?;
     long_images(&mut cases)?;
@@ -130,6 +136,8 @@ fn refused_images(cases: &mut Cases) -> io::Result<()> {
         repeated,
         swapped,
         spoiled(10, 5),
+        misspelt(),
+        faulty(misspelt(), &[], &[2]),
     ];
     let (odd, long) = ([0; MOST_BYTES - 1], [0; MOST_BYTES + 1]);
     for (at, image) in images.iter().enumerate() {
@@ -166,6 +174,48 @@ fn refused_rules(cases: &mut Cases) -> io::Result<()> {
     Ok(())
 }
 
+/// Each sort of dead symbol in STOP, and a dead symbol alone or among as many as there may be, with
+/// an empty record and with one that the others admit.
+fn dead_symbols(cases: &mut Cases) -> io::Result<()> {
+    let mut random = Random::new(15);
+    let mut images = vec![
+        ("no rules", image(1, &[], &[]), vec![7]),
+        ("64 symbols, no rules", image(64, &[], &[]), vec![7]),
+        ("itself alone", image(1, &[], &[(0, 0, 0)]), vec![7; 3]),
+        ("largest, unreached", largest_unreached(), vec![0]),
+        ("largest, barren", largest_barren(), vec![0]),
+    ];
+    for sort in SORTS {
+        let stop = decode(&stop()).expect("an accepted image");
+        let dead = random.within(1, stop.symbols);
+        let image = with_dead(&mut random, stop, sort, dead);
+        images.push((sort.0, image, vec![1, 2, 3]));
+    }
+    for (name, image, events) in images {
+        let ways = ["version 1", "flag 0", "flag 1"];
+        for (way, image) in ways.iter().zip(in_every_way(&image)) {
+            cases.record(&format!("{name}, {way}"), &image, &events)?;
+            cases.record(&format!("{name}, {way}, empty record"), &image, &[])?;
+        }
+    }
+    Ok(())
+}
+
+/// 64 symbols one below the other in both orders of their numbers, whole and with one rule missing.
+fn rings(cases: &mut Cases) -> io::Result<()> {
+    for (name, order) in ["rising", "falling"].into_iter().zip(orders(64)) {
+        for leaf in [0, 21, 63] {
+            let name = format!("ring, {name}, leaf {leaf}");
+            let ring = ring(&order, leaf, leaf == 63);
+            cases.record(&name, &ring, &vec![7; leaf.min(21) + 1])?;
+            let mut grammar = decode(&ring).expect("an accepted image");
+            grammar.pair_rules.remove(20);
+            cases.record(&format!("{name}, broken"), &image_of(&grammar), &[7])?;
+        }
+    }
+    Ok(())
+}
+
 /// The empty record and others under both flags, event files that are refused, and other flags.
 fn flags(cases: &mut Cases) -> io::Result<()> {
     for flag in [0, 1] {
@@ -178,8 +228,8 @@ fn flags(cases: &mut Cases) -> io::Result<()> {
             cases.record(&format!("STOP, flag {flag}, {events:?}"), &stop, events)?;
         }
         cases.pair(&format!("CHAIN, flag {flag}, one byte"), &chain, &[7])?;
-        let wide = version_2(&image(64, &[], &[]), flag);
-        cases.record(&format!("no rules, flag {flag}"), &wide, &[])?;
+        let wide = version_2(&wide(64), flag);
+        cases.record(&format!("64 symbols, flag {flag}"), &wide, &[])?;
     }
     for flag in [2, 3, 128, 254, 255] {
         let image = version_2(&chain(), flag);
@@ -239,7 +289,7 @@ fn long_images(cases: &mut Cases) -> io::Result<()> {
 }
 
 fn event_files(cases: &mut Cases) -> io::Result<()> {
-    let wide = image(64, &[], &[]);
+    let wide = wide(64);
     let shorter = [1, 2, 3, 43, 44, 45, 46, 127, 128, 129, 130];
     let near = MOST_BYTES - 2..=MOST_BYTES + 2;
     let longer = [255, 256, 257, 65_536, 65_539, 1_000_000];
@@ -261,7 +311,7 @@ fn longest(symbols: usize) -> usize {
 /// The longest record that the count buffer holds and the next one, if there may be one.
 fn count_buffer(cases: &mut Cases) -> io::Result<()> {
     for symbols in [3, 4, 5, 6, 7, 8, 9, 10, 13, 16, 20, 21, 32, 44, 63, 64] {
-        let image = image(symbols as u8, &[(0, 7)], &[(0, 0, 0)]);
+        let image = wide(symbols as u8);
         let last = longest(symbols);
         for n in last..=(last + 1).min(MOST_EVENTS) {
             cases.record(
@@ -274,7 +324,7 @@ fn count_buffer(cases: &mut Cases) -> io::Result<()> {
     Ok(())
 }
 
-/// As many rules as there may be, so that rule numbers have three digits, and none.
+/// As many rules as there may be, so that rule numbers have three digits, and one.
 fn large(cases: &mut Cases) -> io::Result<()> {
     for n in [0, 1, 2, 3, 22] {
         let events: Vec<u16> = (0..n).map(|place| place % 8).collect();
@@ -282,8 +332,6 @@ fn large(cases: &mut Cases) -> io::Result<()> {
         let quiet = version_2(&largest(), 1);
         cases.record(&format!("largest, flag 1, {n} events"), &quiet, &events)?;
     }
-    cases.record("no rules", &image(1, &[], &[]), &[7; 3])?;
-    cases.record("no event rules", &image(1, &[], &[(0, 0, 0)]), &[7; 3])?;
     cases.record("no pair rules", &image(1, &[(0, 7)], &[]), &[7])
 }
 
@@ -315,13 +363,17 @@ fn absent(cases: &Cases) -> io::Result<()> {
     Ok(())
 }
 
-/// A random grammar of few symbols in either version, sometimes with one byte changed, and a random
-/// record.
+/// A random grammar of few symbols in either version, mostly a live one and sometimes with one byte
+/// changed, and a random record.
 fn any(cases: &mut Cases, random: &mut Random, at: usize) -> io::Result<()> {
     let symbols = random.within(1, 4);
     let kinds = &[0, 1, 2][..random.within(1, 3)];
     let (event_rules, pair_rules) = (random.within(1, 9), random.within(1, 20));
-    let mut image = any_image(random, symbols, kinds, event_rules, pair_rules);
+    let draw = match at % 4 {
+        0 => any_image,
+        _ => live_image,
+    };
+    let mut image = draw(random, symbols, kinds, event_rules, pair_rules);
     if random.once_in(2) {
         image = version_2(&image, random.below(2) as u8);
     }

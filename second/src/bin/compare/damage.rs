@@ -1,6 +1,6 @@
 //! Faults in an image. Some leave it acceptable, and some change nothing by chance.
 
-use second::image::header_bytes;
+use second::image::{header_bytes, shown};
 use second::random::Random;
 
 /// A kind of fault: its name, and what it does. An image too short for it stays as it is.
@@ -11,7 +11,7 @@ type RuleFault = fn(&mut Random, &mut [u8], usize);
 
 pub const RULE_FAULTS: [RuleFault; 3] = [out_of_range, repeat, swap];
 
-pub const FAULTS: [Fault; 15] = [
+pub const FAULTS: [Fault; 16] = [
     ("cut anywhere", |random, image| {
         let length = random.below(image.len() + 1);
         image.truncate(length);
@@ -78,6 +78,7 @@ pub const FAULTS: [Fault; 15] = [
     ("two rules swapped", |random, image| {
         in_any_rule(random, image, swap);
     }),
+    ("rule left out", leave_out),
     ("random bytes", |random, image| {
         // Sometimes the header stays, with or without a flag, or the mark and the version.
         let keep = random.one_of(&[0, 3, 5, 10, 11]).min(image.len());
@@ -117,6 +118,23 @@ fn out_of_range(random: &mut Random, image: &mut [u8], start: usize) {
 fn repeat(_: &mut Random, image: &mut [u8], start: usize) {
     if start > header_bytes(image) {
         image.copy_within(start - 3..start, start);
+    }
+}
+
+/// Where the length is right; it stays so, and the image is as before but for symbols that die.
+fn leave_out(random: &mut Random, image: &mut Vec<u8>) {
+    let Ok(grammar) = shown(image) else {
+        return;
+    };
+    let event_rules = grammar.event_rules.len();
+    let rules = event_rules + grammar.pair_rules.len();
+    if rules > 0 {
+        let rule = random.below(rules);
+        let start = header_bytes(image) + 3 * rule;
+        image.drain(start..start + 3);
+        let place = if rule < event_rules { 6 } else { 8 };
+        let count = u16::from_le_bytes([image[place], image[place + 1]]) - 1;
+        image[place..place + 2].copy_from_slice(&count.to_le_bytes());
     }
 }
 

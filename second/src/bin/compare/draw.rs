@@ -1,9 +1,11 @@
-//! Random images of version 1, accepted but for those that are just too large, have rules at fault
-//! or are a header alone, and records that meet their rules.
+//! Random images of version 1, accepted but for those that are just too large, have rules at fault,
+//! have dead symbols or are a header alone, and records that meet their rules.
 
 use crate::damage::RULE_FAULTS;
-use second::examples::{any_image, any_symbol, binary, chain, digits, image, stop};
-use second::image::{decode, header_bytes};
+use crate::dead::{one_dead_case, raw_case, ring_case};
+use second::drawn::{any_symbol, live_image, pair_rule, with_symbol};
+use second::examples::{binary, chain, digits, image, image_of, stop};
+use second::image::{decode, header_bytes, shown};
 use second::random::Random;
 use second::services::MOST_EVENTS;
 use std::collections::BTreeSet;
@@ -11,23 +13,30 @@ use std::collections::BTreeSet;
 /// An image and a record.
 pub type Drawn = (Vec<u8>, Vec<u16>);
 
-/// A name, how many of a thousand cases are of this kind, and how one is drawn.
-type Kind = (&'static str, usize, fn(&mut Random) -> Drawn);
+/// A name, how many of a thousand cases are of this kind, a number that its images are meant to get
+/// where they aren't damaged, and how one is drawn.
+type Kind = (&'static str, usize, u8, fn(&mut Random) -> Drawn);
 
-pub const KINDS: [Kind; 12] = [
-    ("chain", 40, chain_case),
-    ("stop", 30, stop_case),
-    ("binary", 100, binary_case),
-    ("product", 50, product_case),
-    ("dense", 300, dense_case),
-    ("sparse", 300, sparse_case),
-    ("wide", 86, wide_case),
-    ("faulty", 30, faulty_case),
-    ("limits", 20, limits_case),
-    ("header", 30, header_case),
-    ("long", 13, long_case),
-    ("largest", 1, largest_case),
+pub const KINDS: [Kind; 15] = [
+    ("chain", 40, 0, chain_case),
+    ("stop", 30, 0, stop_case),
+    ("binary", 100, 0, binary_case),
+    ("product", 50, 0, product_case),
+    ("dense", 275, 0, |random| dense(random, live_image)),
+    ("sparse", 235, 0, |random| sparse(random, live_image)),
+    ("wide", 70, 0, |random| wide(random, live_image)),
+    ("ring", 20, 0, ring_case),
+    ("raw", 26, 15, raw_case),
+    ("one dead", 60, 15, one_dead_case),
+    ("faulty", 30, 7, faulty_case),
+    ("limits", 20, 0, limits_case),
+    ("header", 30, 15, header_case),
+    ("long", 13, 0, long_case),
+    ("largest", 1, 0, largest_case),
 ];
+
+/// How an image of so many symbols, of these events and of about so many rules is drawn.
+type DrawImage = fn(&mut Random, usize, &[u16], usize, usize) -> Vec<u8>;
 
 /// Events that differ in the low byte only, in the high byte only, and in both.
 const EVENTS: [u16; 10] = [0, 1, 7, 255, 256, 257, 1_792, 0x8000, 0xFF00, 0xFFFF];
@@ -47,7 +56,7 @@ pub fn any_kind(random: &mut Random) -> Kind {
     panic!("the numbers of the kinds are short of a thousand");
 }
 
-fn chain_case(random: &mut Random) -> Drawn {
+pub fn chain_case(random: &mut Random) -> Drawn {
     let n = match random.below(8) {
         0..=3 => random.below(13),
         4 => random.within(18, 24),
@@ -69,7 +78,7 @@ fn long(random: &mut Random) -> usize {
 }
 
 /// Stops one after the other, the last perhaps not whole.
-fn stop_case(random: &mut Random) -> Drawn {
+pub fn stop_case(random: &mut Random) -> Drawn {
     let most = random.one_of(&[9, 9, 30, LONGEST]);
     let n = random.below(most + 1);
     let events = (0..n).map(|place| 1 + (place % 3) as u16).collect();
@@ -78,7 +87,7 @@ fn stop_case(random: &mut Random) -> Drawn {
 
 /// Totals around the largest that is told exactly, and any others. Zeros before them change no
 /// total: with the most, a total of 64 digits fills the longest record.
-fn binary_case(random: &mut Random) -> Drawn {
+pub fn binary_case(random: &mut Random) -> Drawn {
     let total = match random.below(4) {
         0 | 1 => 4_294_967_292 + random.below(7) as u64,
         2 => random.within(1_990, 2_010) as u64,
@@ -94,15 +103,10 @@ fn binary_case(random: &mut Random) -> Drawn {
 }
 
 /// BINARY twice, one after the other: sums of products, also of zero and very many.
-fn product_case(random: &mut Random) -> Drawn {
+pub fn product_case(random: &mut Random) -> Drawn {
     let once = decode(&binary()).expect("an accepted image");
-    let event_rules = once.event_rules.iter();
-    let event_rules: Vec<_> = event_rules.map(|r| (1 + r.symbol as u8, r.event)).collect();
-    let pair_rules = once.pair_rules.iter();
-    let pair_rules = pair_rules.map(|r| [r.symbol, r.left, r.right].map(|a| 1 + a as u8));
-    let mut pair_rules: Vec<_> = pair_rules.map(|[a, b, c]| (a, b, c)).collect();
-    pair_rules.push((0, 1, 1));
-    let image = image(6, &event_rules, &pair_rules);
+    let mut grammar = with_symbol(once, 0);
+    grammar.pair_rules.push(pair_rule(0, [1, 1]));
     let most = random.one_of(&[6, 20, 40, 50]);
     let (zeros, n) = (random.below(most + 1), random.below(most + 1));
     // Zeros at one end, so that one factor is zero where the other is largest.
@@ -111,50 +115,53 @@ fn product_case(random: &mut Random) -> Drawn {
     if random.once_in(2) {
         events.reverse();
     }
-    (image, events)
+    (image_of(&grammar), events)
 }
 
 /// Few symbols and events, and many of the possible rules: many readings.
-fn dense_case(random: &mut Random) -> Drawn {
+pub fn dense(random: &mut Random, draw: DrawImage) -> Drawn {
     let symbols = random.within(1, 4);
     let kinds = any_events(random, 3);
     let event_rules = random.within(1, symbols * kinds.len());
     let pair_rules = random.within(1, (symbols * symbols * symbols).min(24));
-    let image = any_image(random, symbols, &kinds, event_rules, pair_rules);
+    let image = draw(random, symbols, &kinds, event_rules, pair_rules);
     let most = random.one_of(&[4, 8, 12, 20]);
     let events = any_record(random, &image, &kinds, most);
     (image, events)
 }
 
 /// Few rules for many symbols, and a record that they mostly derive.
-fn sparse_case(random: &mut Random) -> Drawn {
+pub fn sparse(random: &mut Random, draw: DrawImage) -> Drawn {
     let symbols = random.within(1, 16);
     let kinds = any_events(random, 10);
     let (event_rules, pair_rules) = (random.below(25), random.below(33));
-    let image = any_image(random, symbols, &kinds, event_rules, pair_rules);
+    let image = draw(random, symbols, &kinds, event_rules, pair_rules);
     let most = random.one_of(&[4, 8, 16, 24]);
     let events = any_record(random, &image, &kinds, most);
     (image, events)
 }
 
-/// Any number of symbols and rules.
-fn wide_case(random: &mut Random) -> Drawn {
+/// Any number of symbols, and any number of rules that leaves room for one more of each kind for
+/// each symbol.
+pub fn wide(random: &mut Random, draw: DrawImage) -> Drawn {
     let symbols = random.within(1, 64);
     let kinds = any_events(random, 10);
-    let (event_rules, pair_rules) = (random.below(513), random.below(257));
-    let image = any_image(random, symbols, &kinds, event_rules, pair_rules);
+    let (event_rules, pair_rules) = (random.below(513 - symbols), random.below(257 - symbols));
+    let image = draw(random, symbols, &kinds, event_rules, pair_rules);
     let most = random.one_of(&[2, 4, 8, 12]);
     let events = any_record(random, &image, &kinds, most);
     (image, events)
 }
 
-/// Many rules, some of them at fault: any, or one whose number is easily got wrong.
+/// Rules at fault, mostly of many: any, or one whose number is easily got wrong. Dead symbols too
+/// sometimes, which are refused after them.
 fn faulty_case(random: &mut Random) -> Drawn {
-    let (mut image, events) = match random.below(2) {
-        0 => wide_case(random),
-        _ => full_case(random, 64, 512, 256, 3),
+    let (mut image, events) = match random.below(5) {
+        0 | 1 => wide(random, live_image),
+        2 | 3 => full_case(random, 64, 512, 256, 3),
+        _ => one_dead_case(random),
     };
-    let grammar = decode(&image).expect("an accepted image");
+    let grammar = shown(&image).expect("symbols and rules within their limits");
     let first_pair = grammar.event_rules.len();
     let end = first_pair + grammar.pair_rules.len();
     for _ in 0..random.within(1, 4) {
@@ -176,7 +183,7 @@ fn faulty_case(random: &mut Random) -> Drawn {
 fn long_case(random: &mut Random) -> Drawn {
     let symbols = random.within(1, 5);
     let kinds = any_events(random, 3);
-    let image = any_image(random, symbols, &kinds, 8, 10);
+    let image = live_image(random, symbols, &kinds, 8, 10);
     let most = long(random);
     let events = any_record(random, &image, &kinds, most);
     (image, events)
@@ -192,7 +199,7 @@ fn limits_case(random: &mut Random) -> Drawn {
 }
 
 /// Ten bytes, whatever numbers of rules they name; half of them claim to be version 2, which has one
-/// more. An empty record often, since an image without rules admits no other.
+/// more. An empty record often, which a flag would admit without any rule but for dead symbols.
 fn header_case(random: &mut Random) -> Drawn {
     let symbols = random.one_of(&[0, 1, 1, 1, 64, 65]);
     let event_rules: u16 = random.one_of(&[0, 0, 0, 0, 1, 512, 513]);
@@ -210,9 +217,9 @@ fn largest_case(random: &mut Random) -> Drawn {
     full_case(random, 64, 512, 256, MOST_EVENTS)
 }
 
-/// Exactly so many symbols, rules and events; all symbols turn into all events of the record but
-/// perhaps one.
-fn full_case(
+/// Exactly so many symbols, rules and events, and no symbol dead; all symbols turn into all events of
+/// the record but perhaps one.
+pub fn full_case(
     random: &mut Random,
     symbols: usize,
     event_rules: usize,
@@ -222,7 +229,10 @@ fn full_case(
     let event_rules: Vec<_> = (0..event_rules)
         .map(|r| ((r % symbols) as u8, EVENTS[r / symbols]))
         .collect();
-    let mut pairs = BTreeSet::new();
+    // Each symbol is reached from one below it.
+    let mut pairs: BTreeSet<_> = (1..symbols)
+        .map(|b| (any_symbol(random, b), b as u8, any_symbol(random, symbols)))
+        .collect();
     while pairs.len() < pair_rules {
         let symbol = (pairs.len() % symbols) as u8;
         let [left, right] = [0; 2].map(|_| any_symbol(random, symbols));
@@ -257,7 +267,7 @@ fn any_record(random: &mut Random, image: &[u8], kinds: &[u16], most: usize) -> 
 /// The events of a random derivation from symbol 0, unless it comes to a symbol without rules or
 /// to more than `most` events.
 fn derived(random: &mut Random, image: &[u8], most: usize) -> Option<Vec<u16>> {
-    let grammar = decode(image).ok()?;
+    let grammar = shown(image).ok()?;
     let (mut open, mut events) = (vec![0], Vec::new());
     while let Some(a) = open.pop() {
         let leaves: Vec<_> = grammar.event_rules_of(a).map(|(_, r)| r.event).collect();

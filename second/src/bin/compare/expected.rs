@@ -6,14 +6,16 @@ use crate::layouts::OF_LAYOUTS;
 use crate::quiet;
 use crate::remarks::{names, OF_RULES};
 use crate::scripts::CHANGES;
+use crate::symbols::OF_SYMBOLS;
+use second::drawn::SORTS;
 
 /// The numbers of each service.
 const NUMBERS: [(&str, &[u8]); 5] = [
-    ("test", &[0, 1, 2, 3, 4, 5, 6, 7]),
-    ("judge", &[0, 1, 2, 3, 4, 5, 6, 7, 8, 9]),
-    ("count", &[0, 1, 2, 3, 4, 5, 6, 7, 8, 10]),
-    ("reading", &[0, 1, 2, 3, 4, 5, 6, 7, 8, 10, 11, 12, 13]),
-    ("check", &[0, 1, 2, 3, 4, 5, 6, 7, 8]),
+    ("test", &[0, 1, 2, 3, 4, 5, 6, 7, 15]),
+    ("judge", &[0, 1, 2, 3, 4, 5, 6, 7, 15, 8, 9]),
+    ("count", &[0, 1, 2, 3, 4, 5, 6, 7, 15, 8, 10]),
+    ("reading", &[0, 1, 2, 3, 4, 5, 6, 7, 15, 8, 10, 11, 12, 13]),
+    ("check", &[0, 1, 2, 3, 4, 5, 6, 7, 15, 8]),
 ];
 
 /// Numbers of events around the bits of a word and around the limit, and the number of each service
@@ -24,7 +26,7 @@ const ROOMS: [&str; 3] = ["chart", "table", "script room"];
 
 const FITS: [&str; 4] = ["one word short", "shorter", "exact", "longer"];
 
-const OTHERS: [&str; 22] = [
+const OTHERS: [&str; 26] = [
     "judge: not admitted",
     "judge: admitted",
     "judge: the most firings",
@@ -41,6 +43,10 @@ const OTHERS: [&str; 22] = [
     "check: no: of another record",
     "check: no: of another symbol",
     "check: no: random words",
+    "check: number 15, a reading",
+    "reading: number 15, k of a reading",
+    "reading: number 15, k past the count",
+    "reading: number 15, k past all numbers",
     "true total: 4294967294",
     "true total: 4294967295",
     "true total: 4294967296",
@@ -54,10 +60,14 @@ pub fn expected() -> Vec<String> {
     let mut all = Vec::new();
     for (service, numbers) in NUMBERS {
         all.extend(numbers.iter().map(|n| format!("{service}: number {n}")));
-        for (remark, numbers) in [names(&OF_LAYOUTS), names(&OF_RULES)].concat() {
+        let remarks = [names(&OF_LAYOUTS), names(&OF_RULES), names(&OF_SYMBOLS)];
+        for (remark, numbers) in remarks.concat() {
             let lines = numbers.iter();
             all.extend(lines.map(|n| format!("{service}: number {n}, {remark}")));
         }
+        all.extend(SORTS.map(|(sort, ..)| format!("{service}: number 15, {sort}")));
+        let later = numbers.iter().filter(|n| (8..12).contains(*n));
+        all.extend(later.map(|n| format!("{service}: number 15 before {n}")));
         all.extend([0, 1].map(|flag| format!("{service}: twin with flag {flag}")));
     }
     for (service, _) in &NUMBERS[1..] {
@@ -67,7 +77,7 @@ pub fn expected() -> Vec<String> {
         all.extend(FITS.map(|fit| format!("{room}: {fit}")));
         all.extend(FITS.map(|fit| format!("{room} for 96 events: {fit}")));
     }
-    all.extend(KINDS.map(|(name, ..)| format!("kind: {name}")));
+    all.extend(KINDS.map(|(name, _, meant, _)| format!("kind: {name}, number {meant}")));
     all.extend(FAULTS.map(|(name, _)| format!("damage: {name}")));
     let spoiled = CHANGES[1..].iter();
     all.extend(spoiled.map(|(name, _)| format!("check: no: {name}")));

@@ -4,11 +4,13 @@ use crate::remarks::Remark;
 use second::image::shown;
 
 pub const OF_LAYOUTS: [Remark<[u8]>; 18] = [
-    ("version 1", &[0, 4, 5, 6, 7], |image| version(image) == 1),
-    ("version 2, flag 0", &[0, 4, 5, 6, 7], |image| {
+    ("version 1", &[0, 4, 5, 6, 7, 15], |image| {
+        version(image) == 1
+    }),
+    ("version 2, flag 0", &[0, 4, 5, 6, 7, 15], |image| {
         flag(image) == Some(0)
     }),
-    ("version 2, flag 1", &[0, 4, 5, 6, 7], |image| {
+    ("version 2, flag 1", &[0, 4, 5, 6, 7, 15], |image| {
         flag(image) == Some(1)
     }),
     ("an even flag alone", &[4], |image| {
@@ -29,7 +31,7 @@ pub const OF_LAYOUTS: [Remark<[u8]>; 18] = [
     ("version 2, 10 bytes, no rules", &[5], |image| {
         version(image) == 2 && image.len() == 10 && image[6..] == [0; 4]
     }),
-    ("version 2, 11 bytes", &[0, 4, 5], |image| {
+    ("version 2, 11 bytes", &[4, 5, 15], |image| {
         version(image) == 2 && image.len() == 11
     }),
     ("version 2, as long as version 1", &[5], |image| {
@@ -38,7 +40,7 @@ pub const OF_LAYOUTS: [Remark<[u8]>; 18] = [
     ("version 1, as long as version 2", &[5], |image| {
         version(image) == 1 && accepted_as(2, image)
     }),
-    ("version 2, as long as can be", &[0], |image| {
+    ("version 2, as long as can be", &[0, 15], |image| {
         version(image) == 2 && image.len() == 11 + 3 * (512 + 256)
     }),
     ("version 0", &[3], |image| version(image) == 0),

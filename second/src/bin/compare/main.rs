@@ -4,6 +4,7 @@
 //! version 1 image is replaced by its twin of version 2. Stops at the first difference.
 
 mod damage;
+mod dead;
 mod draw;
 mod expected;
 mod layouts;
@@ -14,6 +15,7 @@ mod remarks;
 mod scripts;
 mod setting;
 mod sides;
+mod symbols;
 mod tally;
 mod versions;
 
@@ -25,11 +27,16 @@ use second::services::MOST_EVENTS;
 use setting::{Call, Setting};
 use sides::{Answer, Side, PROVED, SECOND};
 use std::process::ExitCode;
+use symbols::later_refusal;
 use tally::Tally;
 use versions::{in_any_version, twin};
 
 /// In so many cases everything that is expected must occur.
 const ENOUGH: u64 = 20_000;
+
+/// Of so many cases at least so many images in a hundred must be accepted, or too little but
+/// refusals is compared.
+const ACCEPTED: u64 = 45;
 
 /// The firings of the largest image and record with every symbol in every cell.
 const MOST_FIRINGS: u64 = 37_750_784;
@@ -76,21 +83,35 @@ fn main() -> ExitCode {
     }
     tally.print();
     let missing = match passed >= ENOUGH {
-        true => tally.missing(&expected::expected()),
+        true => too_rare(&tally, passed),
         false => Vec::new(),
     };
     for what in &missing {
-        println!("never occurred: {what}");
+        println!("{what}");
     }
     let failed = missing.len();
     println!("compared {passed} cases: {passed} passed, {failed} failed");
     ExitCode::from(u8::from(failed > 0))
 }
 
+/// What occurred too rarely in so many cases.
+fn too_rare(tally: &Tally, cases: u64) -> Vec<String> {
+    let never = tally.missing(&expected::expected());
+    let mut too_rare: Vec<_> = never
+        .iter()
+        .map(|what| format!("never occurred: {what}"))
+        .collect();
+    let accepted = tally.times("image: number 0");
+    if 100 * accepted < ACCEPTED * cases {
+        too_rare.push(format!("only {accepted} images were accepted"));
+    }
+    too_rare
+}
+
 /// One case. It depends on nothing but the seed and its own number.
 fn compare(seed: u64, case: u64, tally: &mut Tally) -> Result<(), String> {
     let mut random = Random::new(Random::new(seed).word() ^ case);
-    let (name, _, draw) = draw::any_kind(&mut random);
+    let (name, _, meant, draw) = draw::any_kind(&mut random);
     tally.add(format!("kind: {name}"));
     let drawn = draw(&mut random);
     let (mut image, events) = in_any_version(&mut random, drawn);
@@ -98,6 +119,11 @@ fn compare(seed: u64, case: u64, tally: &mut Tally) -> Result<(), String> {
         let (name, fault) = random.one_of(&FAULTS);
         tally.add(format!("damage: {name}"));
         fault(&mut random, &mut image);
+    }
+    let Answer { number, .. } = (SECOND.test)(&image);
+    tally.add(format!("image: number {number}"));
+    if number == meant {
+        tally.add(format!("kind: {name}, number {number}"));
     }
     for step in Plan::new(&mut random, tally, &image, &events).steps() {
         let second = called(&SECOND, &step.setting);
@@ -168,6 +194,16 @@ fn note_length(tally: &mut Tally, step: &Step, number: u8) {
     }
 }
 
+/// What the call would be refused for besides dead symbols, or else what it is about.
+fn note_dead(tally: &mut Tally, step: &Step) {
+    let service = step.setting.service();
+    match later_refusal(&step.setting) {
+        Some(later) => tally.add(format!("{service}: number 15 before {later}")),
+        None if step.note.is_empty() => (),
+        None => tally.add(format!("{service}: number 15, {}", step.note)),
+    }
+}
+
 fn note(tally: &mut Tally, step: &Step, answer: Answer) {
     let Answer { number, rest, .. } = answer;
     let service = step.setting.service();
@@ -176,6 +212,9 @@ fn note(tally: &mut Tally, step: &Step, answer: Answer) {
         tally.add(format!("{service}: number {number}, {remark}"));
     }
     note_length(tally, step, number);
+    if number == 15 {
+        note_dead(tally, step);
+    }
     if let Some(line) = quiet::line(&step.setting, &answer) {
         tally.add(line);
     }

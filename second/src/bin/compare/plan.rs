@@ -6,7 +6,7 @@ use crate::scripts::{another_record, any_reading, of_another_symbol, random_word
 use crate::setting::{Call, Setting};
 use crate::tally::Tally;
 use second::derive::cells;
-use second::image::{decode, header_bytes, Grammar};
+use second::image::{decode, header_bytes, well_formed, Grammar};
 use second::random::Random;
 use second::readings::{cut, Readings};
 use second::services::MOST_EVENTS;
@@ -29,8 +29,7 @@ pub struct Plan<'a> {
     n: usize,
     /// The words of a count table, as far as that can be told of a refused image.
     table: usize,
-    /// Whether the image is accepted and the record as long as it may be, so that rooms decide.
-    longest: bool,
+    accepted: bool,
 }
 
 impl<'a> Plan<'a> {
@@ -49,7 +48,7 @@ impl<'a> Plan<'a> {
             events,
             n,
             table: symbols * cells(n),
-            longest: n == MOST_EVENTS && decode(image).is_ok(),
+            accepted: decode(image).is_ok(),
         }
     }
 
@@ -62,7 +61,7 @@ impl<'a> Plan<'a> {
             self.step(Call::Judge { chart }),
             self.step(Call::Count { table }),
         ];
-        match decode(self.image) {
+        match well_formed(self.image) {
             Ok(grammar) if self.events.len() <= MOST_EVENTS => {
                 steps.extend(self.answered(&grammar))
             }
@@ -93,15 +92,21 @@ impl<'a> Plan<'a> {
         steps
     }
 
-    /// Readings and checks of an image and a record that are not refused.
+    /// Readings and checks of an image and a record that are not refused, or only for dead symbols.
     fn answered(&mut self, grammar: &Grammar) -> Vec<Step> {
         let readings = Readings::of(grammar, self.events);
-        self.note_sizes(grammar, readings.total());
+        if self.accepted {
+            self.note_sizes(grammar, readings.total());
+        }
         let mut steps = Vec::new();
         let slow = grammar.pair_rules.len() * self.n.pow(3) > 2_000_000;
         for _ in 0..if slow { 1 } else { 3 } {
             let k = self.any_k(cut(readings.total()));
-            steps.push(self.reading(k));
+            let note = of_number(k, readings.total());
+            steps.push(Step {
+                note,
+                ..self.reading(k)
+            });
         }
         for _ in 0..4 {
             let check = self.any_check(grammar, &readings);
@@ -134,7 +139,8 @@ impl<'a> Plan<'a> {
             _ => "shorter",
         };
         self.tally.add(format!("{what}: {fit}"));
-        if self.longest {
+        // Where nothing else is refused the room decides.
+        if self.accepted && self.n == MOST_EVENTS {
             let n = self.n;
             self.tally.add(format!("{what} for {n} events: {fit}"));
         }
@@ -207,5 +213,14 @@ impl<'a> Plan<'a> {
             note,
             ..self.step(Call::Check { script })
         }
+    }
+}
+
+/// What there is of this number where the rules make so many readings.
+fn of_number(k: u32, total: u128) -> &'static str {
+    match k {
+        u32::MAX if total >= u32::MAX.into() => "k past all numbers",
+        _ if u128::from(k) < total => "k of a reading",
+        _ => "k past the count",
     }
 }

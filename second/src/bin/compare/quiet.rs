@@ -2,13 +2,13 @@
 
 use crate::setting::{Call, Setting};
 use crate::sides::Answer;
-use second::image::{decode, header_bytes};
+use second::image::{header_bytes, well_formed};
 
-/// The tally's line for a call with an empty record and an accepted image; nothing if it is the
-/// test, or a reading whose number is nothing special.
+/// The tally's line for a call with an empty record and an image that is accepted, or refused for
+/// dead symbols; nothing if it is the test, or a reading whose number is nothing special.
 pub fn line(setting: &Setting, answer: &Answer) -> Option<String> {
     let image = setting.image.slice();
-    let grammar = decode(image).ok()?;
+    let grammar = well_formed(image).ok()?;
     if !setting.events.slice().is_empty() {
         return None;
     }
@@ -18,6 +18,8 @@ pub fn line(setting: &Setting, answer: &Answer) -> Option<String> {
         (_, true) => "flag 1",
     };
     let said = match &setting.call {
+        Call::Test => return None,
+        _ if answer.number == 15 => "number 15".to_string(),
         Call::Judge { .. } => format!("admitted {}", answer.rest[0]),
         Call::Count { .. } => format!("total {}", answer.rest[0]),
         Call::Reading { k, .. } if [0, 1, u32::MAX].contains(k) => {
@@ -50,6 +52,8 @@ pub fn expected() -> Vec<String> {
             told(image, "check", &format!("empty script {readings}")),
             told(image, "check", "other words 0"),
         ]);
+        let services = ["judge", "count", "reading", "check"];
+        all.extend(services.map(|service| told(image, service, "number 15")));
     }
     all
 }

@@ -2,6 +2,7 @@
 
 use crate::layouts::OF_LAYOUTS;
 use crate::sides::Answer;
+use crate::symbols::{sort_of_dead, OF_SYMBOLS};
 use second::image::shown;
 
 /// A remark, the answers that it can go with, and whether it is true.
@@ -41,6 +42,11 @@ pub fn remarks(image: &[u8], answer: &Answer) -> Vec<&'static str> {
     let mut remarks = those_true(&OF_LAYOUTS, answer.number, image);
     if [6, 7].contains(&answer.number) {
         remarks.extend(those_true(&OF_RULES, answer.number, &faulty(image, answer)));
+    }
+    if [0, 7, 15].contains(&answer.number) {
+        let grammar = shown(image).expect("1 to 5 come before all of these");
+        remarks.extend(those_true(&OF_SYMBOLS, answer.number, &grammar));
+        remarks.extend(sort_of_dead(&grammar).filter(|_| answer.number == 15));
     }
     remarks
 }

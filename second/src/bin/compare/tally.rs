@@ -16,6 +16,10 @@ impl Tally {
         }
     }
 
+    pub fn times(&self, what: &str) -> u64 {
+        self.0.get(what).copied().unwrap_or(0)
+    }
+
     /// Those that didn't occur.
     pub fn missing(&self, expected: &[String]) -> Vec<String> {
         let absent = |what: &&String| !self.0.contains_key(*what);
