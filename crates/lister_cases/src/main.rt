@@ -42,6 +42,13 @@ fn faults() {
     shell::list(b"two-low", b"three");
 }
 
+// A symbol that no rule can finish, one that cannot be reached, on a record that is too long, and no rule, where a quiet shift is proper.
+fn dead() {
+    shell::list(b"misspelt", b"three");
+    shell::list(b"island", b"over");
+    shell::list(b"ruleless", b"none");
+}
+
 // Each refusal of a record, and what is just accepted.
 fn records() {
     shell::list(b"chain", b"over");
@@ -87,6 +94,7 @@ fn main() {
     quiet();
     images();
     faults();
+    dead();
     records();
     both();
     missing();
