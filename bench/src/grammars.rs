@@ -83,6 +83,17 @@ pub fn mixed(random: &mut Random) -> Vec<u8> {
     image(64, &leaves, &pairs)
 }
 
+/// 64 symbols, of which the last turns into an event and every other one into two of the four behind
+/// it. A search for those that derive some events finds one in each round of the rules, as they are
+/// in order.
+pub fn one_each_round() -> Vec<u8> {
+    let behind = |s: u8, t: u8| (s + t).min(63);
+    let pairs: Vec<_> = (0..63)
+        .flat_map(|s| (1..=4).map(move |t| [s, s + 1, behind(s, t)]))
+        .collect();
+    image(64, &[(63, 7)], &pairs)
+}
+
 pub fn chain() -> Vec<u8> {
     image(1, &[(0, 7)], &[[0, 0, 0]])
 }

@@ -1,6 +1,6 @@
 //! What the services are called with: images, and the events that are read by them.
 
-use crate::grammars::{any_half, chain, flagged, largest, mixed, stop, two_chains};
+use crate::grammars::{any_half, chain, flagged, largest, mixed, one_each_round, stop, two_chains};
 use crate::plain;
 use crate::random::Random;
 use crate::sizes::{cells, script_words};
@@ -89,6 +89,11 @@ pub fn nearly_empty(events: usize) -> Input {
 
 pub fn short() -> Input {
     Input::new("short", even(), &[7])
+}
+
+/// One event, and the grammar that takes the most rounds to test.
+pub fn slowly_tested() -> Input {
+    Input::new("slowly tested", one_each_round(), &[7])
 }
 
 pub fn sevens(count: usize) -> Input {

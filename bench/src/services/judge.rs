@@ -36,6 +36,7 @@ fn timed() -> Vec<Case<Judged>> {
     let mut cases: Vec<_> = LENGTHS.into_iter().flat_map(long).collect();
     cases.extend([
         judged(records::short(), (true, 64, 64)),
+        judged(records::slowly_tested(), (false, 1, 1)),
         judged(records::sevens(3), (true, 6, 7)),
         judged(records::stops(), (true, 13, 13)),
     ]);

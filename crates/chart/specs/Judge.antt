@@ -17,7 +17,7 @@ use Rattle.image.specs.Refusal.{Row, _unless_, First}
 use Rattle.image.specs.Image.{recordRows, Names}
 use Rattle.chart.specs.declared.Judged.{Judged}
 
--- refusals 1 to 9
+-- the refusals of the record, and then 9
 abbrev pub chartRows : (n size : ℕ) → List Row
 chartRows n size = (9 unless (cells n ≤ size)) ∷ []
 

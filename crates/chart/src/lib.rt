@@ -56,7 +56,7 @@ fn top_has(image: &[u8], chart: &[u64], n: usize) -> bool
     bits::bit_of(top, 0) == 1
 }
 
-// Judges a record: refusals 1 to 9, or the chart, the verdict, the items and the firings.
+// Judges a record: its refusals and then 9, or the chart, the verdict, the items and the firings.
 pub fn judge(image: &[u8], events: &[u16], chart: &mut [u64]) -> Judged
     ensures { λ r. ⌜ JudgeIs (now (image .entry)) (now (events .entry)) (now (chart .entry)) r (now (chart .exit)) ⌝ }
 {

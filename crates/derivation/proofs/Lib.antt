@@ -5,7 +5,7 @@ pub mod Exact
 pub mod Around
 pub mod Live
 pub mod Least
-pub mod Lives
+pub mod LiveDecided
 pub mod Rising
 pub mod Scripts
 pub mod Readings

@@ -1,6 +1,7 @@
--- Live symbols: those that derive some list of one or more events by the rules, and that can be reached from symbol 0 through them. The flag is no
+-- Live and dead symbols: a live one derives some list of one or more events by the rules, and can be reached from symbol 0 through them. The flag is no
 -- rule, and has no say in it.
 -- Assumes nothing.
+use mathlib.Core.Logic.{_⊎_}
 use mathlib.Core.List.{List}
 use Prim.Native.Nat.{ℕ, _≤_, _<_}
 use lib.ListN.{length}
@@ -19,7 +20,10 @@ pub data Reached (g : Grammar) : ℕ → Type 0 where
   left : (b : ℕ) → b < pairCount g → Reached g (pairRule g b .symbol) → Reached g (pairRule g b .left)
   right : (b : ℕ) → b < pairCount g → Reached g (pairRule g b .symbol) → Reached g (pairRule g b .right)
 
--- a symbol of which either fails is dead
 pub record Live (g : Grammar) (A : ℕ) : Type 0 where
   pub derives : DerivesSome g A
   pub reached : Reached g A
+
+-- A derives no such list, or cannot be reached
+abbrev pub Dead : Grammar → ℕ → Type 0
+Dead g A = (DerivesSome g A → ⊥) ⊎ (Reached g A → ⊥)

@@ -12,7 +12,7 @@ use Rattle.derivation.specs.Grammar.{Grammar, leafCount, ruleCount}
 use Rattle.derivation.specs.Sound.{mostSymbols, mostLeaves, mostPairs, InRange, highest, asNumbers, SymbolsFit, Rises}
 use Rattle.derivation.specs.Live.{Live}
 use Rattle.derivation.proofs.Orders.{none-before}
-use Rattle.derivation.proofs.Lives.{live?}
+use Rattle.derivation.proofs.LiveDecided.{live?}
 use Rattle.image.specs.Refusal.{Row, _unless_, First}
 use Rattle.layout.specs.Layout.{headerBytes, byteAt, versionIn, symbolsIn, leavesIn, pairsIn, quietIn, rulesFrom, decode}
 use Rattle.image.specs.Image.{mostEvents, Marked, byteRows, ruleRows, imageRows, eventRows, recordRows}

@@ -14,7 +14,7 @@ use Rattle.derivation.specs.Chart.{cells, firingsBound}
 use Rattle.derivation.specs.Examples.{chain, quietChain, stop}
 use Rattle.derivation.proofs.Orders.{not-before-self}
 use Rattle.derivation.proofs.Least as least
-use Rattle.derivation.proofs.Lives.{upClauses, downClauses, derives?, reached?, live?}
+use Rattle.derivation.proofs.LiveDecided.{upClauses, downClauses, derives?, reached?, live?}
 use Rattle.layout.specs.Layout.{quietIn, rulesFrom, counting, decode}
 use Rattle.image.specs.Image.{mostEvents, Names}
 use Rattle.image.proofs.Named.{names-low}

@@ -5,18 +5,18 @@ use native.Mathlib.Decide.{ℕ-discrete}
 use native.Mathlib.Omega.{arith}
 use mathlib.Core.Path.{_≡_, refl, sym, _∙_, subst, subst₂}
 use mathlib.Core.Logic.{_⊎_, inl, inr, _≢_}
-use mathlib.Core.List.{List, _++_}
+use mathlib.Core.List.{List, [], _∷_, _++_}
 use lib.ListN.{length}
 use Rattle.bits.specs.Truth.{Every}
 use Rattle.derivation.specs.Grammar.{Grammar, ruleCount}
 use Rattle.derivation.specs.Sound.{SymbolsFit, Rises, Sound}
-use Rattle.derivation.specs.Live.{DerivesSome, Reached}
-use Rattle.derivation.proofs.Lives.{dead-symbol}
+use Rattle.derivation.specs.Live.{Live, Dead}
+use Rattle.derivation.proofs.LiveDecided.{dead-symbol, not-all-live}
 use Rattle.image.specs.declared.Tested.{Tested}
-use Rattle.image.specs.Refusal.{Row, FirstOf, First}
+use Rattle.image.specs.Refusal.{Row, _unless_, FirstOf, First}
 use Rattle.layout.specs.Layout.{decode, Whole}
-use Rattle.image.specs.Image.{mostEvents, byteRows, ruleRows, eventRows, imageRows, recordRows, Ranged, Names, Gives, GivesCounts, TestedIs, Accepted, longestImage}
-use Rattle.image.proofs.Refusals.{AllHold, Lacks, Positive, none, pass, first-only, first-zero, all-hold, all-front, all-back, first-hit, first-pass, past-zero, reached, passed, never}
+use Rattle.image.specs.Image.{mostEvents, byteRows, ruleRows, eventRows, imageRows, recordRows, Marked, Versioned, Ranged, Names, Gives, GivesCounts, TestedIs, Accepted, longestImage}
+use Rattle.image.proofs.Refusals.{AllHold, Lacks, Positive, none, fail, pass, first-only, first-zero, all-hold, all-front, all-back, first-hit, first-pass, past-zero, reached, passed, never}
 use Rattle.image.proofs.Named.{names-same, names-none, names-before}
 use Rattle.layout.proofs.Decoded.{leaf-count, pair-count, symbol-count, quiet-flag, rules-from-low}
 
@@ -117,12 +117,14 @@ module _ (b : List ℕ) where
   pub accepted : First (imageRows b) 0 → Accepted b
   accepted p = holding (first-zero (imageRows b) (omega arith) (p .is))
 
-  pub accepted-back : Accepted b → First (imageRows b) 0
-  accepted-back a =
-      let q = a .sound .range in
-      pass (a .whole .long)
-      (pass (a .marked)
-      (pass (a .version)
+  -- past 1 to 7 the symbols decide
+  by-symbols : Marked b → Versioned b → Whole b → Sound (decode b) → {n : ℕ}
+      → First ((15 unless Every (decode b .symbols) (Live (decode b))) ∷ []) n → First (imageRows b) n
+  by-symbols m v w s p =
+      let q = s .range in
+      pass (w .long)
+      (pass m
+      (pass v
       (pass (record {
         some = rw (← symbol-count b) (q .some);
         symbols = rw (← symbol-count b) (q .symbols);
@@ -130,22 +132,27 @@ module _ (b : List ℕ) where
         pairs = rw (← pair-count b) (q .pairs);
         quiet = rw (← quiet-flag b) (q .quiet);
       })
-      (pass (a .whole .sized) (pass (a .sound .fit) (pass (a .sound .rising) (pass (a .live) none)))))))
+      (pass (w .sized) (pass (s .fit) (pass (s .rising) p))))))
 
-  -- 15 says that the grammar is sound, and that some symbol derives no events or cannot be reached
-  pub fifteen : First (imageRows b) 15
-      → Sound (decode b) × ((A : ℕ) × (A < decode b .symbols) × ((DerivesSome (decode b) A → ⊥) ⊎ (Reached (decode b) A → ⊥)))
+  pub accepted-back : Accepted b → First (imageRows b) 0
+  accepted-back a = by-symbols (a .marked) (a .version) (a .whole) (a .sound) (pass (a .live) none)
+
+  -- 15 says that the grammar is sound and that some symbol is dead
+  pub fifteen : First (imageRows b) 15 → Sound (decode b) × ((A : ℕ) × (A < decode b .symbols) × Dead (decode b) A)
   fifteen p = go (passed (byteRows b) (ruleRows (decode b)) 15 (omega arith) p .is)
     where
       range : Ranged b
       range = ranged b 0 refl (reached (byteRows b) (ruleRows (decode b)) 15 (omega arith) p)
 
-      go : FirstOf (ruleRows (decode b)) 15
-          → Sound (decode b) × ((A : ℕ) × (A < decode b .symbols) × ((DerivesSome (decode b) A → ⊥) ⊎ (Reached (decode b) A → ⊥)))
+      go : FirstOf (ruleRows (decode b)) 15 → Sound (decode b) × ((A : ℕ) × (A < decode b .symbols) × Dead (decode b) A)
       go (inl q) = absurd (omega (arith, q .1))
       go (inr (f, inl q)) = absurd (omega (arith, q .1))
       go (inr (f, inr (r, inl q))) = (sound range f r, dead-symbol (decode b) (q .0))
       go (inr (f, inr (r, inr q))) = absurd (omega (arith, q .1))
+
+  -- and is given where nothing before it is
+  pub fifteen-back : Marked b → Versioned b → Whole b → Sound (decode b) → (A : ℕ) → A < decode b .symbols → Dead (decode b) A → First (imageRows b) 15
+  fifteen-back m v w s A l d = by-symbols m v w s (fail (not-all-live (decode b) A l d))
 
   -- an accepted image is at most 2,315 bytes long
   pub accepted-short : Accepted b → length b ≤ longestImage

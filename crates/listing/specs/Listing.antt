@@ -29,7 +29,7 @@ mostListed = 100
 abbrev pub mostEventBytes : ℕ
 mostEventBytes = 2 * mostEvents
 
--- ---- refusals 1 to 7, and then 8, 14 and 10
+-- ---- the refusals of the image, and then 8, 14 and 10
 abbrev pub fileRows : (b e : List ℕ) → List Row
 fileRows b e =
     (8 unless (length e ≤ mostEventBytes))

@@ -4,7 +4,7 @@ ghost use Rattle.layout.specs.Layout.{decode};
 ghost use Rattle.image.specs.Image.{RefusalIs};
 ghost use Rattle.listing.specs.Listing.{programRows};
 
-// Refusals 1 to 7, 8, 14 and 10, or 0.
+// The refusals of the image, and then 8, 14 and 10, or 0.
 pub fn program_refusal(image: &[u8], events: &[u8]) -> Refusal
     ensures { λ r. ⌜ RefusalIs (programRows (now (image .entry)) (now (events .entry))) (decode (now (image .entry))) r ⌝ }
 {

@@ -17,7 +17,7 @@ use Rattle.readings.specs.declared.Counted.{Counted}
 abbrev pub howMany : Grammar → List ℕ → ℕ
 howMany g w = length (readings g w)
 
--- refusals 1 to 8 and 10: n events, a table of size words
+-- the refusals of the record, and then 10: n events, a table of size words
 abbrev pub tableRows : (b : List ℕ) (n size : ℕ) → List Row
 tableRows b n size = (10 unless (tableWords (decode b .symbols) n ≤ size)) ∷ []
 

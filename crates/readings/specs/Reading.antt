@@ -28,7 +28,7 @@ pub record Beyond (k m : ℕ) : Type 0 where
 abbrev pub numberRows : (k m : ℕ) → List Row
 numberRows k m = (12 unless ((k < m) ⊎ Beyond k m)) ∷ (13 unless (Beyond k m → ⊥)) ∷ []
 
--- refusals 1 to 8, 10 and 11: nothing is written
+-- the refusals of the record, and then 10 and 11: nothing is written
 abbrev pub lentRows : (b : List ℕ) (n size space : ℕ) → List Row
 lentRows b n size space = countRows b n size ++ roomRows n space
 

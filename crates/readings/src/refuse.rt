@@ -9,7 +9,7 @@ ghost use Rattle.table.specs.Table.{held};
 ghost use Rattle.readings.specs.Count.{countRows};
 ghost use Rattle.readings.specs.Reading.{lentRows, numberRows};
 
-// Refusals 1 to 8 and 10, or 0.
+// The refusals of the record, and then 10, or 0.
 pub fn count_refusal(image: &[u8], n: usize, size: usize) -> Refusal
     ensures { λ r. ⌜ RefusalIs (countRows (now (image .entry)) n size) (decode (now (image .entry))) r ⌝ }
 {
@@ -31,7 +31,7 @@ pub fn count_refusal(image: &[u8], n: usize, size: usize) -> Refusal
     Refusal { number: 0, rule: 0 }
 }
 
-// Refusals 1 to 8, 10 and 11, or 0.
+// The refusals of the record, and then 10 and 11, or 0.
 pub fn lent_refusal(image: &[u8], n: usize, size: usize, space: usize) -> Refusal
     ensures { λ r. ⌜ RefusalIs (lentRows (now (image .entry)) n size space) (decode (now (image .entry))) r ⌝ }
 {

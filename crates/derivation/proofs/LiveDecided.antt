@@ -1,13 +1,13 @@
 -- Of every symbol it is decided whether it lives: each of the two laws is a least set of clauses, one for each event rule and one or two for each pair
 -- rule.
 -- Assumes nothing.
-use mathlib.Core.Logic.{_⊎_, inl, inr, Dec·and}
+use mathlib.Core.Logic.{inl, inr, ⊎-elim, Dec·and}
 use mathlib.Core.List.{List, [], _∷_, _++_, map}
 use Prim.Native.Nat.{ℕ, _<_}
 use Rattle.bits.specs.Truth.{Every}
 use Rattle.bits.proofs.Decisions.{dec-as, some-fails}
 use Rattle.derivation.specs.Grammar.{EventRule, PairRule, Grammar}
-use Rattle.derivation.specs.Live.{DerivesSome, Reached, Live}
+use Rattle.derivation.specs.Live.{DerivesSome, Reached, Live, Dead}
 use Rattle.derivation.proofs.Least.{Clause, AllStay, stay-both, stay-front, stay-back, stay-each, stay-at, decided}
 use Rattle.derivation.proofs.Live.{Upward, Downward, derives-upward, derives-least, reached-downward, reached-least}
 
@@ -75,8 +75,11 @@ module _ (g : Grammar) where
   live? A =
       dec-as (λ p. record { derives = p .0; reached = p .1 }) (λ l. (l .derives, l .reached)) (Dec·and (derives? A) (reached? A))
 
-  -- where not every symbol lives, one of them derives no events or cannot be reached
-  pub dead-symbol : (Every (g .symbols) (Live g) → ⊥) → (A : ℕ) × (A < g .symbols) × ((DerivesSome g A → ⊥) ⊎ (Reached g A → ⊥))
+  -- where not every symbol is live, one is dead; and where one is dead, not every one is live
+  pub dead-symbol : (Every (g .symbols) (Live g) → ⊥) → (A : ℕ) × (A < g .symbols) × Dead g A
   dead-symbol f =
       let s = some-fails (g .symbols) (Live g) live? f in
       (s .0, s .1, elim (derives? (s .0)) [ yes d ↦ inr (λ r. s .2 (record { derives = d; reached = r })) | no d ↦ inl d ])
+
+  pub not-all-live : (A : ℕ) → A < g .symbols → Dead g A → Every (g .symbols) (Live g) → ⊥
+  not-all-live A l d f = ⊎-elim (λ n. n (f A l .derives)) (λ n. n (f A l .reached)) d
