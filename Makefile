@@ -2,12 +2,13 @@ SHELL := bash
 .SHELLFLAGS := -o pipefail -c
 .PHONY: run test bench compare soak clean
 
-# Proves and builds the program, and lists the readings of three example records (examples/README.md).
+# Proves and builds the program, and lists the readings of three example records, and what it says of a misspelt grammar (examples/README.md).
 run:
 	@rt check lister | grep '^rt:'
 	tools/run lister examples/stop.grammar examples/two-stops.events
 	tools/run lister examples/chain.grammar examples/four.events
 	tools/run lister examples/quiet.grammar examples/none.events
+	tools/run lister examples/misspelt.grammar examples/two-stops.events
 
 # Every check there is; ends with 'N passed, M failed', and with status 0 exactly when all passed.
 test:

@@ -1,11 +1,13 @@
 /* All five services on CHAIN and the record 7 7 7, and on CHAIN in version 2 with the flag 1 and a record without events; and the test of
-   CHAIN with its event rule twice, which names rule 1. What is written is the specification's. */
+   CHAIN with its event rule twice, which names rule 1, and of CHAIN with a second symbol that a rule names and none can finish. What is
+   written is the specification's. */
 #include "reader.h"
 #include <stdio.h>
 
 static const uint8_t chain[] = {0x45, 0x53, 0x47, 1, 0, 1, 1, 0, 1, 0, 0, 7, 0, 0, 0, 0};
 static const uint8_t quiet[] = {0x45, 0x53, 0x47, 2, 0, 1, 1, 0, 1, 0, 1, 0, 7, 0, 0, 0, 0};
 static const uint8_t twice[] = {0x45, 0x53, 0x47, 1, 0, 1, 2, 0, 1, 0, 0, 7, 0, 0, 7, 0, 0, 0, 0};
+static const uint8_t misspelt[] = {0x45, 0x53, 0x47, 1, 0, 2, 1, 0, 2, 0, 0, 7, 0, 0, 0, 0, 0, 0, 1};
 static const uint16_t events[] = {7, 7, 7};
 
 static void test(const uint8_t *image, size_t length)
@@ -44,6 +46,7 @@ int main(void)
     test(chain, sizeof chain);
     test(quiet, sizeof quiet);
     test(twice, sizeof twice);
+    test(misspelt, sizeof misspelt);
     read_record(chain, sizeof chain, 3);
     read_record(quiet, sizeof quiet, 0);
     return 0;
