@@ -83,14 +83,14 @@ pub fn mixed(random: &mut Random) -> Vec<u8> {
     image(64, &leaves, &pairs)
 }
 
-/// 64 symbols, of which the last turns into an event and every other one into two of the four behind
-/// it. A search for those that derive some events finds one in each round of the rules, as they are
-/// in order.
+/// 64 symbols, of which the last turns into an event. The start is made of the last, and every other
+/// one both of its neighbours on either side. As the rules are in order, a search from the event
+/// upward finds one symbol in each round of them, and so does one from the start downward.
 pub fn one_each_round() -> Vec<u8> {
-    let behind = |s: u8, t: u8| (s + t).min(63);
-    let pairs: Vec<_> = (0..63)
-        .flat_map(|s| (1..=4).map(move |t| [s, s + 1, behind(s, t)]))
-        .collect();
+    let beside = |s: u8, next: u8| [[s, next, next], [s, next, 63]];
+    let mut pairs = vec![[0, 63, 63]];
+    pairs.extend((1..63).flat_map(|s| beside(s, s + 1)));
+    pairs.extend((2..64).flat_map(|s| beside(s, s - 1)));
     image(64, &[(63, 7)], &pairs)
 }
 

@@ -1,11 +1,9 @@
--- Laws of a refusal table: it admits one answer only; what the answer 0 says; two tables, one after the other; which numbers one can give.
+-- Laws of a refusal table: it admits one answer only; what the answer 0 says; two tables, one after the other; a number that no row has.
 -- Assumes nothing.
-use Prim.Native.Nat.{ℕ, _≤_, _<_}
+use Prim.Native.Nat.{ℕ}
 use mathlib.Core.Path.{_≡_, refl, sym, _∙_, subst}
-use mathlib.Core.Logic.{_⊎_, inl, inr, _≢_, ⊎-elim}
+use mathlib.Core.Logic.{inl, inr, _≢_}
 use mathlib.Core.List.{List, [], _∷_, _++_}
-use native.Mathlib.Nat.{lt-irrefl}
-use native.Mathlib.Omega.{arith}
 use Rattle.image.specs.Refusal.{Row, _unless_, FirstOf, First}
 
 -- the three ways to an answer
@@ -101,7 +99,7 @@ lone ((k unless P) ∷ rows) more n h (inr p) = inr (p .0, lone rows more n (λ 
 pub alone : (rows more : List Row) (n : ℕ) → (AllHold rows → ⊥) → First (rows ++ more) n → First rows n
 alone rows more n h p = record { is = lone rows more n h (p .is) }
 
--- and no table gives a number that it lacks
+-- no table gives a number that no row of it has, but for 0
 gives : (rows : List Row) (n : ℕ) → n ≢ 0 → Lacks n rows → FirstOf rows n → ⊥
 gives [] n z u p = z p
 gives ((k unless P) ∷ rows) n z u (inl p) = u .0 (p .1)
