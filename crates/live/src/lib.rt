@@ -50,6 +50,7 @@ fn with_parts(image: &[u8], r: usize, set: u64) -> u64
     bits::put_bit(more, right, 1)
 }
 
+// The same for either search.
 fn with_rule(image: &[u8], r: usize, set: u64, sought: Sought) -> u64
     requires { ⌜ HasPair (now image) r × Sound (decode (now image)) ⌝ }
     ensures { λ t. ⌜ Grown sought (decode (now (image .entry))) set (Stays sought (decode (now (image .entry))) set r) t ⌝ }
@@ -93,6 +94,7 @@ fn event_symbols(image: &[u8]) -> u64
     set
 }
 
+// What a search starts with.
 fn start(image: &[u8], sought: Sought) -> u64
     requires { ⌜ Whole (now image) × Sound (decode (now image)) ⌝ }
     ensures { λ s. ⌜ Starts sought (decode (now (image .entry))) s ⌝ }
@@ -135,6 +137,7 @@ fn has_all(set: u64, n: usize) -> bool
     true
 }
 
+// Whether every symbol is among those that are sought.
 fn all_meet(image: &[u8], sought: Sought) -> bool
     requires { ⌜ Whole (now image) × Sound (decode (now image)) ⌝ }
     ensures { λ ok. ⌜ Decides ok (Every (decode (now (image .entry)) .symbols) (Meets sought (decode (now (image .entry))))) ⌝ }
