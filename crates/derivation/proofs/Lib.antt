@@ -6,6 +6,7 @@ pub mod Around
 pub mod Live
 pub mod Least
 pub mod LiveDecided
+pub mod LiveReadings
 pub mod Rising
 pub mod Scripts
 pub mod Readings

@@ -11,7 +11,7 @@ use Rattle.derivation.specs.Grammar.{Grammar, leafCount, pairCount, even
 use Rattle.derivation.specs.Tree.{Tree, leaf, node, Derives}
 use Rattle.derivation.specs.Live.{DerivesSome, Reached, start, left, right}
 use Rattle.derivation.proofs.Around.{moved, more-behind, more-before}
-use Rattle.derivation.proofs.Exact.{node-sound}
+use Rattle.derivation.proofs.Exact.{node-sound, some-events}
 
 pub record Upward (g : Grammar) (In : ℕ → Type 0) : Type 0 where
   pub event : (r : ℕ) → r < leafCount g → In (eventRule g r .symbol)
@@ -31,25 +31,29 @@ module _ (g : Grammar) where
     derivable = (leaf r 1, record { rule = l; symbol = refl; event = refl; inside = omega arith; end = refl; place = refl });
   }
 
-  -- the two lists, one after the other
+  -- two derivations make one over the two lists, one after the other
+  abbrev pub join : ℕ → List ℕ → Tree → Tree → Tree
+  join b v t u = node (leafCount g + b) (length v) t (moved (length v) u)
+
+  pub joined : (b : ℕ) → b < pairCount g → (v w : List ℕ) (t u : Tree)
+      → Derives g v (pairRule g b .left) 0 (length v) t → Derives g w (pairRule g b .right) 0 (length w) u
+      → Derives g (v ++ w) (pairRule g b .symbol) 0 (length (v ++ w)) (join b v t u)
+  joined b l v w t u p q =
+      let n = length-append v w in
+      node-sound g (v ++ w) (pairRule g b .symbol) 0 (length (v ++ w)) b (length v) t (moved (length v) u) l
+      (some-events g v _ 0 (length v) t p) (omega (arith, n, some-events g w _ 0 (length w) u q)) refl
+      (more-behind g v w (pairRule g b .left) 0 (length v) t p)
+      (subst₂ (λ (i k : ℕ). Derives g (v ++ w) (pairRule g b .right) i k (moved (length v) u)) (add-zero (length v)) (sym n)
+      (more-before g v w (pairRule g b .right) 0 (length w) u q))
+
   by-pair : (b : ℕ) → b < pairCount g → DerivesSome g (pairRule g b .left) → DerivesSome g (pairRule g b .right) → DerivesSome g (pairRule g b .symbol)
   by-pair b l x y =
-      let v = x .events in
-      let w = y .events in
-      let n = length-append v w in
       let p = x .derivable in
       let q = y .derivable in
-      let behind =
-      subst₂ (λ (i k : ℕ). Derives g (v ++ w) (pairRule g b .right) i k (moved (length v) (q .0))) (add-zero (length v)) (sym n)
-      (more-before g v w (pairRule g b .right) 0 (length w) (q .0) (q .1)) in
       record {
-        events = v ++ w;
-        some = omega (arith, n, x .some);
-        derivable = (
-          node (leafCount g + b) (length v) (p .0) (moved (length v) (q .0)),
-          node-sound g (v ++ w) (pairRule g b .symbol) 0 (length (v ++ w)) b (length v) (p .0) (moved (length v) (q .0)) l
-              (x .some) (omega (arith, n, y .some)) refl (more-behind g v w (pairRule g b .left) 0 (length v) (p .0) (p .1)) behind,
-        );
+        events = x .events ++ y .events;
+        some = omega (arith, length-append (x .events) (y .events), x .some);
+        derivable = (join b (x .events) (p .0) (q .0), joined b l (x .events) (y .events) (p .0) (q .0) (p .1) (q .1));
       }
 
   pub derives-upward : Upward g (DerivesSome g)
@@ -60,7 +64,7 @@ module _ (g : Grammar) where
 
   -- ---- and they are in every set that none leaves
   module _ (In : ℕ → Type 0) where
-    tree-in : Upward g In → (w : List ℕ) (A i k : ℕ) (t : Tree) → Derives g w A i k t → In A
+    pub tree-in : Upward g In → (w : List ℕ) (A i k : ℕ) (t : Tree) → Derives g w A i k t → In A
     tree-in c w A i k (leaf r p) d = subst In (d .symbol) (c .event r (d .rule))
     tree-in c w A i k (node r j t u) d =
         let q = pairRule g (r - leafCount g) in

@@ -2,8 +2,8 @@ pub mod Order
 pub mod Grammar
 pub mod Sound
 pub mod Tree
-pub mod Live
 pub mod Reading
+pub mod Live
 pub mod Numbering
 pub mod Derivations
 pub mod Chart

@@ -1,4 +1,4 @@
--- Laws of the two tests: one answer only, what the answer 0 gives, and how a service goes on from them.
+-- Laws of the two tests: one answer only, what the answer 0 gives, what 15 says, and how a service goes on from them.
 -- Assumes nothing.
 use Prim.Native.Nat.{ℕ, _≤_, _<_}
 use native.Mathlib.Decide.{ℕ-discrete}
@@ -65,7 +65,7 @@ acceptance rows g t p q = record {
 -- ---- within the test of an image
 -- a refusal by the bytes is not one of the two that name a rule
 pub bytes-other : (b : List ℕ) (n : ℕ) → First (byteRows b) n → (n ≢ 6) × (n ≢ 7)
-bytes-other b n p = (λ e. lacks 6 (λ z. omega arith) (omega arith) e, λ e. lacks 7 (λ z. omega arith) (omega arith) e)
+bytes-other b n p = (lacks 6 (λ z. omega arith) (omega arith), lacks 7 (λ z. omega arith) (omega arith))
   where
     lacks : (m : ℕ) → m ≢ 0 → Lacks m (byteRows b) → n ≢ m
     lacks m z u e = never (byteRows b) m z u (subst (First (byteRows b)) e p)

@@ -98,8 +98,7 @@ module _ (g : Grammar) where
   pub begun-more : (r s x : ℕ) → r < leafCount g → x ≡ ruleSymbol g r → Begun g r s → Begun g (r + 1) (put s x 1)
   begun-more r s x l e p =
       let f : x ≡ eventRule g r .symbol = e ∙ leaf-symbol g r l in
-      let t : Grown Deriving g s (Unit {0}) (put s x 1) =
-      grown-put Deriving g s x (λ _. subst⁻¹ (DerivesSome g) f (derives-upward g .event r l)) (λ _. tt) in
+      let t = grown-put Deriving g s x {Q = Unit {0}} (λ _. subst⁻¹ (DerivesSome g) f (derives-upward g .event r l)) (λ _. tt) in
       record {
         covers = below-more _ r (λ q h. t .keeps _ (p .covers q h)) (subst (Has (put s x 1)) f (put-has s x));
         only = t .only (p .only);
@@ -124,10 +123,10 @@ module _ (g : Grammar) where
   }
 
   downward : (s : ℕ) → Covers Reachable g s → Every (ruleCount g) (Stays Reachable g s) → Downward g (Has s)
-  downward s c f =
-      let both : (b : ℕ) → b < pairCount g → Has s (pairRule g b .symbol) → Has s (pairRule g b .left) × Has s (pairRule g b .right)
-      = λ b l. rw add-sub-cancel-left at (f (leafCount g + b) (omega arith) (omega arith)) in
-      record { start = c; left = λ b l h. both b l h .0; right = λ b l h. both b l h .1 }
+  downward s c f = record { start = c; left = λ b l h. both b l h .0; right = λ b l h. both b l h .1 }
+    where
+      both : (b : ℕ) → b < pairCount g → Has s (pairRule g b .symbol) → Has s (pairRule g b .left) × Has s (pairRule g b .right)
+      both b l = rw add-sub-cancel-left at (f (leafCount g + b) (omega arith) (omega arith))
 
   pub exactly : (sought : Sought) (s : ℕ) → Starts sought g s → Every (ruleCount g) (Stays sought g s) → Exactly (Meets sought g) s
   exactly Deriving s p f = record { only = p .only; all = derives-least g (Has s) (upward s (p .covers) f) }

@@ -1,6 +1,6 @@
 -- The refusal tables of count and reading: what the answer 0 gives, and which numbers the refusals 12 and 13 leave.
 -- Assumes nothing.
-use mathlib.Core.Path.{_≡_, refl, sym, subst}
+use mathlib.Core.Path.{_≡_, refl, subst⁻¹}
 use mathlib.Core.Logic.{_⊎_, inl, inr, _≢_, ⊎-elim}
 use mathlib.Core.List.{List, _++_}
 use Prim.Native.Nat.{ℕ, _≤_, _<_}
@@ -48,10 +48,10 @@ module _ (b : List ℕ) (n size : ℕ) where
 
     -- none of these refusals leaves a table filled, and one that does comes from behind them
     fills-lack : (r : ℕ) → Fills r → Lacks r (lentRows b n size space)
-    fills-lack r h =
-        let lacks : (m : ℕ) → Lacks m (lentRows b n size space) → r ≡ m → Lacks r (lentRows b n size space)
-        = λ m l e. subst (λ (k : ℕ). Lacks k (lentRows b n size space)) (sym e) l in
-        ⊎-elim (lacks 0 (omega arith)) (⊎-elim (lacks 12 (omega arith)) (lacks 13 (omega arith))) h
+    fills-lack r = ⊎-elim (lacks 0 (omega arith)) (⊎-elim (lacks 12 (omega arith)) (lacks 13 (omega arith)))
+      where
+        lacks : (m : ℕ) → Lacks m (lentRows b n size space) → r ≡ m → Lacks r (lentRows b n size space)
+        lacks m l e = subst⁻¹ (λ (k : ℕ). Lacks k (lentRows b n size space)) e l
 
     pub lent-keeps : (r : ℕ) → r ≢ 0 → First (lentRows b n size space) r → Fills r → ⊥
     lent-keeps r z p h = never (lentRows b n size space) r z (fills-lack r h) p
