@@ -1,4 +1,5 @@
 pub mod Truths
+pub mod Each
 pub mod Decisions
 pub mod Sums
 pub mod Bits

@@ -10,14 +10,14 @@ use lib.Dec.{ltb}
 use borrow.Author.Tests.{ltb-true}
 use lib.ListN.{length, getD}
 use lib.Count.{ones, onesIn}
-use Rattle.bits.specs.Truth.{Decides, same}
+use Rattle.bits.specs.Truth.{Decides, All, same}
 use Rattle.bits.specs.Sum.{sum, between}
 use Rattle.derivation.specs.Grammar.{Grammar}
 use Rattle.derivation.specs.Tree.{script}
 use Rattle.derivation.specs.Reading.{quiet, Admitted, spelling}
 use Rattle.derivation.specs.Derivations.{join, gate, cross, leafAt, nodesAt, splitsAt, level, trees, derivations, readings, scripts, count, known}
 use Rattle.derivation.specs.Chart.{column, cellAt, cell, items, eventFirings, pairFirings, columnFirings, firings}
-use Rattle.derivation.specs.Examples.{chain, quietChain, stop, Detail, reading, word, Example, example, DetailHolds, DetailsHold, RowHolds, examples}
+use Rattle.derivation.specs.Examples.{chain, quietChain, stop, Detail, reading, word, Example, example, DetailHolds, RowHolds, examples}
 use Rattle.derivation.proofs.Lists.{_∈_, truth}
 use Rattle.derivation.proofs.Numbering.{readings-numbered}
 
@@ -77,7 +77,7 @@ detail-holds g w (reading q s) e = (ltb-true q (length (scripts g w)) (ap (λ (v
 detail-holds g w (word i k n v) e =
     let h = ap (λ (v : Value). v .words) e in (head-eq-of-cons-eq h, head-eq-of-cons-eq (tail-eq-of-cons-eq h))
 
-details-hold : (g : Grammar) (w : List ℕ) (ds : List Detail) → map (detail g w) ds ≡ map said ds → DetailsHold g w ds
+details-hold : (g : Grammar) (w : List ℕ) (ds : List Detail) → map (detail g w) ds ≡ map said ds → All (DetailHolds g w) ds
 details-hold g w [] e = tt
 details-hold g w (d ∷ ds) e = (detail-holds g w d (head-eq-of-cons-eq e), details-hold g w ds (tail-eq-of-cons-eq e))
 

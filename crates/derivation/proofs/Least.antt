@@ -3,13 +3,15 @@
 -- Assumes nothing.
 use mathlib.Core.Path.{_≡_, refl, ap, subst}
 use mathlib.Core.Logic.{_⊎_, inl, inr, ⊎-elim, Dec·and}
-use mathlib.Core.List.{List, [], _∷_, _++_, map}
-use Prim.Native.Nat.{ℕ, zero, suc, _≤_, _<_}
+use mathlib.Core.List.{List, [], _∷_}
+use Prim.Native.Nat.{ℕ, zero, suc, _≤_}
 use native.Mathlib.Nat.{le-refl}
 use native.Mathlib.Decide.{ℕ-discrete}
 use native.Mathlib.Omega.{arith}
-use lib.ListN.{length, getD}
-use Rattle.bits.specs.Bit.{bit, Has, put}
+use lib.ListN.{length}
+use Rattle.bits.specs.Truth.{All}
+use Rattle.bits.specs.Bit.{bit, Has, Within, put}
+use Rattle.bits.proofs.Each.{all-as}
 use Rattle.bits.proofs.Decisions.{dec-as}
 use Rattle.bits.proofs.Sets.{none-in, put-has, put-keeps, put-only}
 
@@ -17,53 +19,16 @@ pub record Clause : Type 0 where
   pub needs : List ℕ
   pub gives : ℕ
 
-abbrev pub AllOf : (ℕ → Type 0) → List ℕ → Type 0
-AllOf In [] = Unit {0}
-AllOf In (a ∷ more) = In a × AllOf In more
-
 -- the clause does not leave the set
 abbrev pub Stays : (ℕ → Type 0) → Clause → Type 0
-Stays In c = AllOf In (c .needs) → In (c .gives)
+Stays In c = All In (c .needs) → In (c .gives)
 
 -- none of them does
 abbrev pub AllStay : (ℕ → Type 0) → List Clause → Type 0
-AllStay In [] = Unit {0}
-AllStay In (c ∷ cs) = Stays In c × AllStay In cs
-
--- ---- lists of clauses
-module _ (In : ℕ → Type 0) where
-  pub stay-both : (cs ds : List Clause) → AllStay In cs → AllStay In ds → AllStay In (cs ++ ds)
-  stay-both [] ds p q = q
-  stay-both (c ∷ cs) ds p q = (p .0, stay-both cs ds (p .1) q)
-
-  pub stay-front : (cs ds : List Clause) → AllStay In (cs ++ ds) → AllStay In cs
-  stay-front [] ds p = tt
-  stay-front (c ∷ cs) ds p = (p .0, stay-front cs ds (p .1))
-
-  pub stay-back : (cs ds : List Clause) → AllStay In (cs ++ ds) → AllStay In ds
-  stay-back [] ds p = p
-  stay-back (c ∷ cs) ds p = stay-back cs ds (p .1)
-
-  -- one clause of each of a list
-  module _ {X : Type 0} (f : X → Clause) (d : X) where
-    pub stay-each : (xs : List X) → ((r : ℕ) → r < length xs → Stays In (f (getD xs r d))) → AllStay In (map f xs)
-    stay-each [] p = tt
-    stay-each (x ∷ xs) p = (p 0 (omega arith), stay-each xs (λ r l. p (suc r) (omega arith)))
-
-    pub stay-at : (xs : List X) → AllStay In (map f xs) → (r : ℕ) → r < length xs → Stays In (f (getD xs r d))
-    stay-at [] p r l = absurd (omega arith)
-    stay-at (x ∷ xs) p zero l = p .0
-    stay-at (x ∷ xs) p (suc r) l = stay-at xs (p .1) r (omega arith)
+AllStay In = All (Stays In)
 
 -- ---- one round
-abbrev Within : ℕ → (ℕ → Type 0) → Type 0
-Within s P = (a : ℕ) → Has s a → P a
-
-pub all-as : (s : ℕ) (P : ℕ → Type 0) (xs : List ℕ) → Within s P → AllOf (Has s) xs → AllOf P xs
-all-as s P [] f h = tt
-all-as s P (a ∷ more) f h = (f a (h .0), all-as s P more f (h .1))
-
-unfoldable pub all? : (s : ℕ) (xs : List ℕ) → Dec (AllOf (Has s) xs)
+unfoldable pub all? : (s : ℕ) (xs : List ℕ) → Dec (All (Has s) xs)
 all? s [] = yes tt
 all? s (a ∷ more) = Dec·and (ℕ-discrete (bit s a) 1) (all? s more)
 
@@ -75,14 +40,14 @@ pub record Ready (s : ℕ) (cs : List Clause) : Type 1 where
   pub enough : (P : ℕ → Type 0) → P gives → AllStay P others → AllStay P cs
   pub sound : (P : ℕ → Type 0) → Within s P → AllStay P cs → P gives × AllStay P others
 
-unfoldable pub pick : (s : ℕ) (c : Clause) (cs : List Clause) → Dec (AllOf (Has s) (c .needs)) → AllStay (Has s) cs ⊎ Ready s cs
+unfoldable pub pick : (s : ℕ) (c : Clause) (cs : List Clause) → Dec (All (Has s) (c .needs)) → AllStay (Has s) cs ⊎ Ready s cs
     → AllStay (Has s) (c ∷ cs) ⊎ Ready s (c ∷ cs)
 pick s c cs (yes h) n = inr (record {
   gives = c .gives;
   others = cs;
   fewer = refl;
   enough = λ P a p. (λ _. a, p);
-  sound = λ P f p. (p .0 (all-as s P (c .needs) f h), p .1);
+  sound = λ P f p. (p .0 (all-as (Has s) P f (c .needs) h), p .1);
 })
 pick s c cs (no h) (inl p) = inl (λ n. absurd (h n), p)
 pick s c cs (no h) (inr o) = inr (record {

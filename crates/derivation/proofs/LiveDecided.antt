@@ -5,10 +5,11 @@ use mathlib.Core.Logic.{inl, inr, ⊎-elim, Dec·and}
 use mathlib.Core.List.{List, [], _∷_, _++_, map}
 use Prim.Native.Nat.{ℕ, _<_}
 use Rattle.bits.specs.Truth.{Every}
+use Rattle.bits.proofs.Each.{all-both, all-front, all-back, all-each, all-at}
 use Rattle.bits.proofs.Decisions.{dec-as, some-fails}
 use Rattle.derivation.specs.Grammar.{EventRule, PairRule, Grammar}
 use Rattle.derivation.specs.Live.{DerivesSome, Reached, Live, Dead}
-use Rattle.derivation.proofs.Least.{Clause, AllStay, stay-both, stay-front, stay-back, stay-each, stay-at, decided}
+use Rattle.derivation.proofs.Least.{Clause, Stays, AllStay, decided}
 use Rattle.derivation.proofs.Live.{Upward, Downward, derives-upward, derives-least, reached-downward, reached-least}
 
 -- ---- the clauses
@@ -36,32 +37,32 @@ module _ (g : Grammar) where
     pub up-stays : Upward g In → AllStay In upClauses
     unfolding upClauses
     up-stays u =
-        stay-both In (map ofEvent (g .leaves)) (map ofParts (g .pairs))
-        (stay-each In ofEvent _ (g .leaves) (λ r l _. u .event r l))
-        (stay-each In ofParts _ (g .pairs) (λ b l n. u .pair b l (n .0) (n .1 .0)))
+        all-both (Stays In) (map ofEvent (g .leaves)) (map ofParts (g .pairs))
+        (all-each (Stays In) ofEvent _ (g .leaves) (λ r l _. u .event r l))
+        (all-each (Stays In) ofParts _ (g .pairs) (λ b l n. u .pair b l (n .0) (n .1 .0)))
 
     pub stays-up : AllStay In upClauses → Upward g In
     unfolding upClauses
     stays-up p = record {
-      event = λ r l. stay-at In ofEvent _ (g .leaves) (stay-front In (map ofEvent (g .leaves)) (map ofParts (g .pairs)) p) r l tt;
-      pair = λ b l x y. stay-at In ofParts _ (g .pairs) (stay-back In (map ofEvent (g .leaves)) (map ofParts (g .pairs)) p) b l (x, (y, tt));
+      event = λ r l. all-at (Stays In) ofEvent _ (g .leaves) (all-front (Stays In) (map ofEvent (g .leaves)) (map ofParts (g .pairs)) p) r l tt;
+      pair = λ b l x y. all-at (Stays In) ofParts _ (g .pairs) (all-back (Stays In) (map ofEvent (g .leaves)) (map ofParts (g .pairs)) p) b l (x, (y, tt));
     }
 
     pub down-stays : Downward g In → AllStay In downClauses
     unfolding downClauses
     down-stays d = (
       λ _. d .start,
-      stay-both In (map toLeft (g .pairs)) (map toRight (g .pairs))
-          (stay-each In toLeft _ (g .pairs) (λ b l n. d .left b l (n .0)))
-          (stay-each In toRight _ (g .pairs) (λ b l n. d .right b l (n .0))),
+      all-both (Stays In) (map toLeft (g .pairs)) (map toRight (g .pairs))
+          (all-each (Stays In) toLeft _ (g .pairs) (λ b l n. d .left b l (n .0)))
+          (all-each (Stays In) toRight _ (g .pairs) (λ b l n. d .right b l (n .0))),
     )
 
     pub stays-down : AllStay In downClauses → Downward g In
     unfolding downClauses
     stays-down p = record {
       start = p .0 tt;
-      left = λ b l x. stay-at In toLeft _ (g .pairs) (stay-front In (map toLeft (g .pairs)) (map toRight (g .pairs)) (p .1)) b l (x, tt);
-      right = λ b l x. stay-at In toRight _ (g .pairs) (stay-back In (map toLeft (g .pairs)) (map toRight (g .pairs)) (p .1)) b l (x, tt);
+      left = λ b l x. all-at (Stays In) toLeft _ (g .pairs) (all-front (Stays In) (map toLeft (g .pairs)) (map toRight (g .pairs)) (p .1)) b l (x, tt);
+      right = λ b l x. all-at (Stays In) toRight _ (g .pairs) (all-back (Stays In) (map toLeft (g .pairs)) (map toRight (g .pairs)) (p .1)) b l (x, tt);
     }
 
   -- ---- the decisions

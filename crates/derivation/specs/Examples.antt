@@ -5,7 +5,7 @@ use mathlib.Core.Bool.{Bool, true, false}
 use mathlib.Core.List.{List, [], _∷_}
 use Prim.Native.Nat.{ℕ, _<_}
 use lib.ListN.{length, getD}
-use Rattle.bits.specs.Truth.{Decides}
+use Rattle.bits.specs.Truth.{Decides, All}
 use Rattle.derivation.specs.Grammar.{Grammar}
 use Rattle.derivation.specs.Reading.{Admitted}
 use Rattle.derivation.specs.Derivations.{scripts}
@@ -60,16 +60,12 @@ abbrev pub DetailHolds : Grammar → List ℕ → Detail → Type 0
 DetailHolds g w (reading q s) = (q < length (scripts g w)) × (getD (scripts g w) q [] ≡ s)
 DetailHolds g w (word i k n v) = (cellAt i k ≡ n) × (cell g w i k ≡ v)
 
-abbrev pub DetailsHold : Grammar → List ℕ → List Detail → Type 0
-DetailsHold g w [] = Unit {0}
-DetailsHold g w (d ∷ ds) = DetailHolds g w d × DetailsHold g w ds
-
 pub record RowHolds (e : Example) : Type 0 where
   pub verdict : Decides (e .verdict) (Admitted (e .grammar) (e .events))
   pub items : items (e .grammar) (e .events) ≡ e .items
   pub firings : firings (e .grammar) (e .events) ≡ e .firings
   pub readings : length (scripts (e .grammar) (e .events)) ≡ e .readings
-  pub details : DetailsHold (e .grammar) (e .events) (e .details)
+  pub details : All (DetailHolds (e .grammar) (e .events)) (e .details)
 
 -- ---- the rows marked P: verdict, items, firings, readings, details. Where 01 names no verdict or number of readings it follows from
 -- the other of the two. The last two are for request (vii).

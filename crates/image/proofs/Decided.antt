@@ -4,8 +4,10 @@ use Prim.Native.Nat.{ℕ, _+_, _-_, _*_, _<_}
 use native.Mathlib.Decide.{ℕ-discrete, decLe, decLt}
 use mathlib.Core.Path.{_≡_}
 use mathlib.Core.Logic.{_⊎_, inl, inr, Dec·and, Dec·not}
-use mathlib.Core.List.{List, [], _∷_, _++_}
+use mathlib.Core.List.{List, [], _∷_}
 use lib.ListN.{length}
+use Rattle.bits.specs.Truth.{All}
+use Rattle.bits.proofs.Each.{all-both}
 use Rattle.bits.proofs.Decisions.{dec-as, dec-implies, dec-either, dec-every}
 use Rattle.derivation.specs.Order.{Before, less, equal}
 use Rattle.derivation.specs.Grammar.{Grammar, leafCount, ruleCount}
@@ -16,12 +18,14 @@ use Rattle.derivation.proofs.LiveDecided.{live?}
 use Rattle.image.specs.Refusal.{Row, _unless_, First}
 use Rattle.layout.specs.Layout.{headerBytes, byteAt, versionIn, symbolsIn, leavesIn, pairsIn, quietIn, rulesFrom, decode}
 use Rattle.image.specs.Image.{mostEvents, Marked, byteRows, ruleRows, imageRows, eventRows, recordRows}
-use Rattle.image.proofs.Refusals.{none, fail, pass}
+use Rattle.image.proofs.Refusals.{demand, none, fail, pass}
 
 -- ---- any table whose demands are decided
+abbrev pub IsDecided : Row → Type 0
+IsDecided row = Dec (demand row)
+
 abbrev pub Decided : List Row → Type 0
-Decided [] = Unit {0}
-Decided ((k unless P) ∷ rows) = Dec P × Decided rows
+Decided = All IsDecided
 
 unfoldable pub pick : {P : Type 0} → Dec P → ℕ → ℕ → ℕ
 pick (yes p) k n = n
@@ -40,10 +44,6 @@ pub answer-is : (rows : List Row) (d : Decided rows) → First rows (answer rows
 unfolding answer
 answer-is [] d = none
 answer-is ((k unless P) ∷ rows) d = picked (d .0) k _ rows (answer-is rows (d .1))
-
-unfoldable pub decided-both : (rows more : List Row) → Decided rows → Decided more → Decided (rows ++ more)
-decided-both [] more d e = e
-decided-both ((k unless P) ∷ rows) more d e = (d .0, decided-both rows more (d .1) e)
 
 -- ---- an order of lists
 pub before-to : {x y : ℕ} {xs ys : List ℕ} → (x < y) ⊎ ((x ≡ y) × Before xs ys) → Before (x ∷ xs) (y ∷ ys)
@@ -99,10 +99,10 @@ rules-decided g = (
 )
 
 unfoldable pub image-decided : (b : List ℕ) → Decided (imageRows b)
-image-decided b = decided-both (byteRows b) (ruleRows (decode b)) (bytes-decided b) (rules-decided (decode b))
+image-decided b = all-both IsDecided (byteRows b) (ruleRows (decode b)) (bytes-decided b) (rules-decided (decode b))
 
 unfoldable pub record-decided : (b : List ℕ) (n : ℕ) → Decided (recordRows b n)
-record-decided b n = decided-both (imageRows b) (eventRows n) (image-decided b) (decLe n mostEvents, tt)
+record-decided b n = all-both IsDecided (imageRows b) (eventRows n) (image-decided b) (decLe n mostEvents, tt)
 
 -- the refusal of any image, and of any image and number of events
 unfoldable pub imageRefusal : List ℕ → ℕ

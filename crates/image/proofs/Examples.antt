@@ -8,6 +8,7 @@ use mathlib.Core.List.{List, [], _∷_}
 use Prim.Native.Nat.{ℕ}
 use Rattle.bits.specs.Truth.{same}
 use Rattle.bits.specs.Bit.{bit, put}
+use Rattle.bits.proofs.Each.{all-both}
 use Rattle.bits.proofs.Decisions.{dec-as, dec-implies, dec-either, dec-every}
 use Rattle.derivation.specs.Sound.{mostSymbols, mostPairs}
 use Rattle.derivation.specs.Chart.{cells, firingsBound}
@@ -18,7 +19,7 @@ use Rattle.derivation.proofs.LiveDecided.{upClauses, downClauses, derives?, rea
 use Rattle.layout.specs.Layout.{quietIn, rulesFrom, counting, decode}
 use Rattle.image.specs.Image.{mostEvents, Names}
 use Rattle.image.proofs.Named.{names-low}
-use Rattle.image.proofs.Decided.{pick, answer, decided-both, dec-before, marked?, range?, fit?, rises?, bytes-decided, rules-decided, image-decided, imageRefusal}
+use Rattle.image.proofs.Decided.{pick, answer, dec-before, marked?, range?, fit?, rises?, bytes-decided, rules-decided, image-decided, imageRefusal}
 
 unfoldable pub chainImage : List ℕ
 chainImage = 0x45 ∷ 0x53 ∷ 0x47 ∷ 1 ∷ 0 ∷ 1 ∷ 1 ∷ 0 ∷ 1 ∷ 0 ∷ 0 ∷ 7 ∷ 0 ∷ 0 ∷ 0 ∷ 0 ∷ []
@@ -74,7 +75,7 @@ pub refusals :
     ∷ imageRefusal (flaggedImage 0) ∷ imageRefusal (flaggedImage 1) ∷ imageRefusal (flaggedImage 2) ∷ imageRefusal unflaggedImage
     ∷ imageRefusal (ruleless 0) ∷ imageRefusal (ruleless 1) ∷ imageRefusal endlessImage ∷ imageRefusal misspeltImage ∷ imageRefusal islandImage ∷ [])
     ≡ 0 ∷ 0 ∷ 7 ∷ 0 ∷ 0 ∷ 4 ∷ 5 ∷ 15 ∷ 15 ∷ 15 ∷ 15 ∷ 15 ∷ []
-unfolding imageRefusal image-decided bytes-decided rules-decided decided-both answer pick marked? range? fit? rises? live? derives? reached? upClauses downClauses least.decided least.least least.found least.goOn least.ready least.pick least.all? bit put dec-every dec-before dec-as dec-either dec-implies Dec·and Dec·not decode counting rulesFrom quietIn same chainImage stopImage twiceImage flaggedImage unflaggedImage ruleless endlessImage misspeltImage islandImage ℕ-discrete decLe decLt
+unfolding imageRefusal image-decided bytes-decided rules-decided all-both answer pick marked? range? fit? rises? live? derives? reached? upClauses downClauses least.decided least.least least.found least.goOn least.ready least.pick least.all? bit put dec-every dec-before dec-as dec-either dec-implies Dec·and Dec·not decode counting rulesFrom quietIn same chainImage stopImage twiceImage flaggedImage unflaggedImage ruleless endlessImage misspeltImage islandImage ℕ-discrete decLe decLt
 refusals = refl
 
 -- 7 names rule 1 there: rule 0 has no predecessor, and no rule is before itself

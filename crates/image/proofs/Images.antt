@@ -8,6 +8,7 @@ use mathlib.Core.Logic.{inl, inr, _≢_}
 use mathlib.Core.List.{List, [], _∷_, _++_}
 use lib.ListN.{length}
 use Rattle.bits.specs.Truth.{Every}
+use Rattle.bits.proofs.Each.{all-front, all-back}
 use Rattle.derivation.specs.Grammar.{Grammar, ruleCount}
 use Rattle.derivation.specs.Sound.{SymbolsFit, Rises, Sound}
 use Rattle.derivation.specs.Live.{Live, Dead}
@@ -16,7 +17,7 @@ use Rattle.image.specs.declared.Tested.{Tested}
 use Rattle.image.specs.Refusal.{Row, _unless_, FirstOf, First}
 use Rattle.layout.specs.Layout.{decode, Whole}
 use Rattle.image.specs.Image.{mostEvents, byteRows, ruleRows, eventRows, imageRows, recordRows, Marked, Versioned, Ranged, Names, Gives, GivesCounts, TestedIs, Accepted, longestImage}
-use Rattle.image.proofs.Refusals.{AllHold, Lacks, Positive, none, fail, pass, first-only, first-zero, all-hold, all-front, all-back, first-hit, first-pass, past-zero, reached, passed, never}
+use Rattle.image.proofs.Refusals.{demand, AllHold, Lacks, Positive, none, fail, pass, first-only, first-zero, all-hold, first-hit, first-pass, past-zero, reached, passed, never}
 use Rattle.image.proofs.Named.{names-same, names-none, names-before}
 use Rattle.layout.proofs.Decoded.{leaf-count, pair-count, symbol-count, quiet-flag, rules-from-low}
 
@@ -163,7 +164,7 @@ module _ (b : List ℕ) where
 
   -- the test of a record says the same, and that the events are not too many
   pub record-holding : (n : ℕ) → AllHold (recordRows b n) → Accepted b × (n ≤ mostEvents)
-  record-holding n h = (holding (all-front (imageRows b) (eventRows n) h), all-back (imageRows b) (eventRows n) h .0)
+  record-holding n h = (holding (all-front demand (imageRows b) (eventRows n) h), all-back demand (imageRows b) (eventRows n) h .0)
 
   pub record-accepted : (n : ℕ) (t : Tested) → TestedIs (recordRows b n) (decode b) t → t .number ≡ 0 → Accepted b × (n ≤ mostEvents)
   record-accepted n t p e = record-holding n (all-hold (recordRows b n) (omega arith) (t .number) e (p .number))

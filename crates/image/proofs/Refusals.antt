@@ -4,6 +4,7 @@ use Prim.Native.Nat.{ℕ}
 use mathlib.Core.Path.{_≡_, refl, sym, _∙_, subst}
 use mathlib.Core.Logic.{inl, inr, _≢_}
 use mathlib.Core.List.{List, [], _∷_, _++_}
+use Rattle.bits.specs.Truth.{All}
 use Rattle.image.specs.Refusal.{Row, _unless_, FirstOf, First}
 
 -- the three ways to an answer
@@ -27,18 +28,23 @@ only ((k unless P) ∷ rows) m n (inr p) (inr q) = only rows m n (p .1) (q .1)
 pub first-only : {rows : List Row} {m n : ℕ} → First rows m → First rows n → m ≡ n
 first-only {rows} {m} {n} p q = only rows m n (p .is) (q .is)
 
+-- the two things that a row has
+abbrev pub numberOf : Row → ℕ
+numberOf (k unless P) = k
+
+abbrev pub demand : Row → Type 0
+demand (k unless P) = P
+
 -- what the table asks, all of it
 abbrev pub AllHold : List Row → Type 0
-AllHold [] = Unit {0}
-AllHold ((k unless P) ∷ rows) = P × AllHold rows
+AllHold = All demand
 
 -- no row has the number n
 abbrev pub Lacks : ℕ → List Row → Type 0
-Lacks n [] = Unit {0}
-Lacks n ((k unless P) ∷ rows) = (n ≢ k) × Lacks n rows
+Lacks n = All (λ row. n ≢ numberOf row)
 
 abbrev pub Positive : List Row → Type 0
-Positive rows = Lacks 0 rows
+Positive = Lacks 0
 
 pub first-zero : (rows : List Row) → Positive rows → FirstOf rows 0 → AllHold rows
 first-zero [] z p = tt
@@ -48,16 +54,6 @@ first-zero ((k unless P) ∷ rows) z (inr p) = (p .0, first-zero rows (z .1) (p 
 -- the number 0 says that every demand holds
 pub all-hold : (rows : List Row) → Positive rows → (n : ℕ) → n ≡ 0 → First rows n → AllHold rows
 all-hold rows z n e p = first-zero rows z (subst (FirstOf rows) e (p .is))
-
--- two tables, one after the other, ask what the first asks
-pub all-front : (rows more : List Row) → AllHold (rows ++ more) → AllHold rows
-all-front [] more h = tt
-all-front ((k unless P) ∷ rows) more h = (h .0, all-front rows more (h .1))
-
--- and what the second asks
-pub all-back : (rows more : List Row) → AllHold (rows ++ more) → AllHold more
-all-back [] more h = h
-all-back ((k unless P) ∷ rows) more h = all-back rows more (h .1)
 
 -- a refusal by the first table is one by both; past the first table the second decides
 hit : (rows more : List Row) (n : ℕ) → n ≢ 0 → FirstOf rows n → FirstOf (rows ++ more) n

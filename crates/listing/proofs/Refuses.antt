@@ -5,10 +5,11 @@ use mathlib.Core.List.{List}
 use Prim.Native.Nat.{ℕ, _≤_}
 use native.Mathlib.Omega.{arith}
 use lib.ListN.{length}
+use Rattle.bits.proofs.Each.{all-front, all-back}
 use Rattle.layout.specs.Layout.{decode}
 use Rattle.image.specs.Refusal.{First}
 use Rattle.image.specs.Image.{mostEvents, imageRows, Accepted}
-use Rattle.image.proofs.Refusals.{all-hold, all-front, all-back}
+use Rattle.image.proofs.Refusals.{demand, all-hold}
 use Rattle.image.proofs.Images.{holding}
 use Rattle.table.specs.Table.{tableWords}
 use Rattle.text.specs.Text.{words}
@@ -24,9 +25,9 @@ pub record Passed (b e : List ℕ) : Type 0 where
 pub passed : (b e : List ℕ) (r : ℕ) → r ≡ 0 → First (programRows b e) r → Passed b e
 passed b e r z p =
     let h = all-hold (programRows b e) (omega arith) r z p in
-    let f = all-back (imageRows b) (fileRows b e) h in
+    let f = all-back demand (imageRows b) (fileRows b e) h in
     record {
-      image = holding b (all-front (imageRows b) (fileRows b e) h);
+      image = holding b (all-front demand (imageRows b) (fileRows b e) h);
       bytes = f .0;
       few = rw length-words (let l = f .0 in omega arith);
       fits = f .1 .1 .0;

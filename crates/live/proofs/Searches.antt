@@ -7,7 +7,7 @@ use mathlib.Core.Path.{_≡_, sym, _∙_, subst, subst⁻¹}
 use mathlib.Core.Logic.{⊎-elim}
 use borrow.Author.Count.{below-none, below-more}
 use Rattle.bits.specs.Truth.{Every}
-use Rattle.bits.specs.Bit.{bit, Has, put}
+use Rattle.bits.specs.Bit.{bit, Has, Within, put}
 use Rattle.bits.proofs.Bits.{bit-lt}
 use Rattle.bits.proofs.Sets.{none-in, put-has, put-keeps, put-only, put-grows}
 use Rattle.derivation.specs.Grammar.{Grammar, leafCount, pairCount, ruleCount, eventRule, pairRule, ruleSymbol}
@@ -16,7 +16,7 @@ use Rattle.derivation.proofs.Sound.{leaf-symbol, pair-symbol}
 use Rattle.derivation.proofs.Live.{Upward, Downward, derives-upward, derives-least, reached-least}
 use Rattle.live.specs.declared.Sought.{Sought}
 use Rattle.live.specs.declared.Sought.the-variants.{Deriving, Reachable}
-use Rattle.live.specs.Search.{Meets, Only, Covers, Stays, Starts, Grown, Exactly}
+use Rattle.live.specs.Search.{Meets, Covers, Stays, Starts, Grown, Exactly}
 
 module _ (sought : Sought) (g : Grammar) where
   -- ---- steps
@@ -25,7 +25,7 @@ module _ (sought : Sought) (g : Grammar) where
   grown-none s q = record { larger = le-refl s; keeps = λ a h. h; only = λ f. f; ended = λ _. q }
 
   -- one that puts in a symbol that is sought where all of the set is
-  pub grown-put : (s x : ℕ) {Q : Type 0} → (Only sought g s → Meets sought g x) → (Has s x → Q) → Grown sought g s Q (put s x 1)
+  pub grown-put : (s x : ℕ) {Q : Type 0} → (Within s (Meets sought g) → Meets sought g x) → (Has s x → Q) → Grown sought g s Q (put s x 1)
   grown-put s x m q = record {
     larger = put-grows s x;
     keeps = put-keeps s x;
@@ -89,7 +89,7 @@ module _ (g : Grammar) (r : ℕ) (l : leafCount g ≤ r) (m : r < ruleCount g) (
 -- the symbols of the first r event rules, and nothing that derives no events
 pub record Begun (g : Grammar) (r s : ℕ) : Type 0 where
   pub covers : Every r (λ q. Has s (eventRule g q .symbol))
-  pub only : Only Deriving g s
+  pub only : Within s (DerivesSome g)
 
 module _ (g : Grammar) where
   pub begun-none : Begun g 0 0
@@ -112,7 +112,7 @@ module _ (g : Grammar) where
 
 -- ---- the end
 module _ (g : Grammar) where
-  pub covers-more : (sought : Sought) (s t : ℕ) → ((a : ℕ) → Has s a → Has t a) → Covers sought g s → Covers sought g t
+  pub covers-more : (sought : Sought) (s t : ℕ) → Within s (Has t) → Covers sought g s → Covers sought g t
   covers-more Deriving s t k c = λ r l. k _ (c r l)
   covers-more Reachable s t k c = k 0 c
 

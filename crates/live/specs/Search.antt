@@ -3,7 +3,7 @@
 use Prim.Native.Nat.{ℕ, _-_, _≤_}
 use mathlib.Core.Path.{_≡_}
 use Rattle.bits.specs.Truth.{Every}
-use Rattle.bits.specs.Bit.{Has}
+use Rattle.bits.specs.Bit.{Has, Within}
 use Rattle.derivation.specs.Grammar.{Grammar, leafCount, eventRule, pairRule}
 use Rattle.derivation.specs.Live.{DerivesSome, Reached}
 use Rattle.live.specs.declared.Sought.{Sought}
@@ -13,10 +13,6 @@ use Rattle.live.specs.declared.Sought.the-variants.{Deriving, Reachable}
 abbrev pub Meets : Sought → Grammar → ℕ → Type 0
 Meets Deriving g A = DerivesSome g A
 Meets Reachable g A = Reached g A
-
--- every symbol of s is sought
-abbrev pub Only : Sought → Grammar → ℕ → Type 0
-Only sought g s = (a : ℕ) → Has s a → Meets sought g a
 
 -- those with which a search starts are in s: the symbols of all event rules, or symbol 0
 abbrev pub Covers : Sought → Grammar → ℕ → Type 0
@@ -34,16 +30,16 @@ Stays Reachable g s r =
 
 pub record Starts (sought : Sought) (g : Grammar) (s : ℕ) : Type 0 where
   pub covers : Covers sought g s
-  pub only : Only sought g s
+  pub only : Within s (Meets sought g)
 
 -- t is s with more that is sought, and where it is s, Q holds
 pub record Grown (sought : Sought) (g : Grammar) (s : ℕ) (Q : Type 0) (t : ℕ) : Type 0 where
   pub larger : s ≤ t
-  pub keeps : (a : ℕ) → Has s a → Has t a
-  pub only : Only sought g s → Only sought g t
+  pub keeps : Within s (Has t)
+  pub only : Within s (Meets sought g) → Within t (Meets sought g)
   pub ended : t ≡ s → Q
 
 -- s is the set of all that P holds of
 pub record Exactly (P : ℕ → Type 0) (s : ℕ) : Type 0 where
-  pub only : (a : ℕ) → Has s a → P a
+  pub only : Within s P
   pub all : (a : ℕ) → P a → Has s a

@@ -6,12 +6,13 @@ use mathlib.Core.List.{List, _++_}
 use Prim.Native.Nat.{ℕ, _≤_, _<_}
 use native.Mathlib.Decide.{decLt}
 use native.Mathlib.Omega.{arith}
+use Rattle.bits.proofs.Each.{all-front, all-back}
 use Rattle.derivation.specs.Grammar.{Grammar}
 use Rattle.derivation.specs.Tree.{scriptWords}
 use Rattle.layout.specs.Layout.{decode}
 use Rattle.image.specs.Refusal.{Row, FirstOf, First}
 use Rattle.image.specs.Image.{mostEvents, recordRows, Names, Accepted}
-use Rattle.image.proofs.Refusals.{AllHold, Lacks, none, fail, pass, all-hold, all-front, all-back, reached, never}
+use Rattle.image.proofs.Refusals.{demand, AllHold, Lacks, none, fail, pass, all-hold, reached, never}
 use Rattle.image.proofs.Named.{names-before, names-behind}
 use Rattle.image.proofs.Images.{record-holding}
 use Rattle.table.specs.Table.{limit, held, tableWords}
@@ -31,8 +32,8 @@ pub record LentOk (b : List ℕ) (n size space : ℕ) : Type 0 where
 module _ (b : List ℕ) (n size : ℕ) where
   count-holds : AllHold (countRows b n size) → CountOk b n size
   count-holds h =
-      let r = record-holding b n (all-front (recordRows b n) (tableRows b n size) h) in
-      record { image = r .0; few = r .1; fits = all-back (recordRows b n) (tableRows b n size) h .0 }
+      let r = record-holding b n (all-front demand (recordRows b n) (tableRows b n size) h) in
+      record { image = r .0; few = r .1; fits = all-back demand (recordRows b n) (tableRows b n size) h .0 }
 
   pub count-ok : (r : ℕ) → r ≡ 0 → First (countRows b n size) r → CountOk b n size
   count-ok r e p = count-holds (all-hold (countRows b n size) (omega arith) r e p)
@@ -41,7 +42,7 @@ module _ (b : List ℕ) (n size : ℕ) where
     pub lent-ok : (r : ℕ) → r ≡ 0 → First (lentRows b n size space) r → LentOk b n size space
     lent-ok r e p =
         let h = all-hold (lentRows b n size space) (omega arith) r e p in
-        record { count = count-holds (all-front (countRows b n size) (roomRows n space) h); fits = all-back (countRows b n size) (roomRows n space) h .0 }
+        record { count = count-holds (all-front demand (countRows b n size) (roomRows n space) h); fits = all-back demand (countRows b n size) (roomRows n space) h .0 }
 
     pub lent-record : First (lentRows b n size space) 0 → First (recordRows b n) 0
     lent-record p = reached (recordRows b n) (tableRows b n size) 0 (omega arith) (reached (countRows b n size) (roomRows n space) 0 (omega arith) p)
