@@ -1,9 +1,9 @@
 -- Laws of sums: one term more, terms that agree, sums of sums, where a sum is 0; and `min 1`, which turns a sum into "some".
 -- Assumes nothing.
 use mathlib.Core.Path.{_≡_, refl, sym, ap, ap₂, _∙_, subst}
-use mathlib.Core.Logic.{⊎-elim}
+use mathlib.Core.Logic.{_⊎_, inl, inr, ⊎-elim}
 use Prim.Native.Nat.{ℕ, zero, suc, _+_, _-_, _*_, _≤_, _<_, min, max, zero-le}
-use native.Mathlib.Nat.{le-refl, zero-add, mul-one, le-step, lt-suc-self, add-zero, add-suc, mul-zero, mul-pos, zero-lt-suc, not-suc-le-zero, le-of-suc-le-suc, eq-or-lt-of-le}
+use native.Mathlib.Nat.{le-refl, zero-add, mul-one, mul-comm, le-step, lt-suc-self, add-zero, add-suc, mul-zero, mul-pos, zero-lt-suc, not-suc-le-zero, le-of-suc-le-suc, eq-or-lt-of-le}
 use native.Mathlib.Numerals.{add-one}
 use native.Mathlib.Decide.{ℕ-discrete}
 use native.Mathlib.Omega.{arith}
@@ -134,6 +134,26 @@ unfolding between
 between-room i j k f m a b h =
     let d : i + 1 + (j - (i + 1)) ≡ j = omega arith in
     sum-room (k - (i + 1)) (λ x. f (i + 1 + x)) (j - (i + 1)) m (omega arith) (subst (λ (y : ℕ). m < f y) (sym d) h)
+
+-- a sum whose terms are 0 elsewhere
+pub sum-between : (n i k : ℕ) (f : ℕ → ℕ) → i < k → k ≤ n → ((j : ℕ) → j < n → (j < i + 1) ⊎ (k ≤ j) → f j ≡ 0) → sum n f ≡ between i k f
+unfolding between
+sum-between n i k f l h none =
+    let e : n ≡ i + 1 + (k - (i + 1) + (n - k)) = omega arith in
+    ap (λ (m : ℕ). sum m f) e ∙ sum-split (i + 1) (k - (i + 1) + (n - k)) f
+    ∙ ap₂ _+_ (sum-zero (i + 1) f (λ x o. none x (omega arith) (inl o)))
+    (sum-split (k - (i + 1)) (n - k) (λ x. f (i + 1 + x))
+    ∙ ap (λ (y : ℕ). sum (k - (i + 1)) (λ x. f (i + 1 + x)) + y) (sum-zero (n - k) _ (λ x o. none _ (omega arith) (inr (omega arith)))))
+    ∙ omega arith
+
+pub between-swap : (i k n : ℕ) (f : ℕ → ℕ → ℕ) → between i k (λ j. sum n (f j)) ≡ sum n (λ b. between i k (λ j. f j b))
+unfolding between
+between-swap i k n f = sum-swap (k - (i + 1)) n (λ x b. f (i + 1 + x) b)
+
+pub between-scale : (i k s : ℕ) (f : ℕ → ℕ) → between i k (λ j. f j * s) ≡ between i k f * s
+unfolding between
+between-scale i k s f =
+    sum-cong (k - (i + 1)) _ _ (λ x l. mul-comm (f (i + 1 + x)) s) ∙ sum-scale (k - (i + 1)) s (λ x. f (i + 1 + x)) ∙ mul-comm s _
 
 -- ---- products of 0 and 1
 pub product-le : (p q : ℕ) → p < 2 → q < 2 → p * q ≤ 1

@@ -1,3 +1,4 @@
 pub mod Fills
 pub mod Bridge
 pub mod Judges
+pub mod Shows

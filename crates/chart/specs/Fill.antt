@@ -19,6 +19,10 @@ use Rattle.kernel.specs.declared.Fired.{Fired}
 abbrev pub rd : List ℕ → ℕ → ℕ → ℕ
 rd c i k = getD c (cellAt i k) 0
 
+-- whether it holds A
+abbrev pub inChart : List ℕ → (i k A : ℕ) → ℕ
+inChart c i k A = bit (rd c i k) A
+
 -- ---- a cell of more than one event
 -- how many pairs of a rule and a split j, i < j < k, have both premises in the words of (i, j) and (j, k); and how many of them conclude A
 unfoldable pub cellHits : Grammar → List ℕ → (i k : ℕ) → ℕ

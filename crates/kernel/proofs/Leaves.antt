@@ -51,7 +51,7 @@ module _ (g : Grammar) (e : ℕ) where
       word = λ A.
           noted .word A ∙ ap₂ max (w .word A) (one-more A)
           ∙ some-add _ _ (small A) ∙ ap (min 1) (sym (sum-more n (turns g e A)));
-      count = noted .count ∙ ap₂ _+_ (w .count) once ∙ sym (sum-more n _);
+      count = noted .count ∙ ap₂ _+_ (w .count) met ∙ sym (sum-more n _);
     }
 
   pub run-done : (f : Fired) → Run f (leafCount g) → LeafFired g e f

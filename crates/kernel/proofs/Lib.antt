@@ -2,3 +2,5 @@ pub mod Follows
 pub mod Unions
 pub mod Visits
 pub mod Leaves
+pub mod Pairs
+pub mod Along

@@ -17,7 +17,7 @@ use Rattle.bits.proofs.Words.{meet-one}
 use Rattle.derivation.specs.Grammar.{Grammar, pairCount, pairRule}
 use Rattle.kernel.specs.declared.Fired.{Fired}
 use Rattle.groups.specs.Group.{lefts, byLeft, groupFrom, groupTo, groupNeeds, groupGives, rightIs, symbolIs, Grouped}
-use Rattle.kernel.specs.Follow.{matching, concluding, Followed}
+use Rattle.kernel.specs.Follow.{matching, concluding, over, Followed}
 
 -- what holds of each rule of a group may be put for it in a sum over the group
 module _ (g : Grammar) (a : ℕ) (F H : ℕ → ℕ → ℕ)
@@ -40,6 +40,16 @@ byLeft-ones : (g : Grammar) (a n : ℕ) → byLeft g a (λ R S. 1) n ≡ lefts g
 unfolding byLeft lefts
 byLeft-ones g a n = sum-cong n _ _ (λ b l. mul-one _)
 
+-- none of a group's rules matches
+pub followed-unmet : (g : Grammar) (a : ℕ) (m : ℕ → ℕ) → ((b : ℕ) → b < pairCount g → pairRule g b .left ≡ a → m (2 ^ pairRule g b .right) ≡ 0)
+    → (f : Fired) → Followed g m a f f
+unfolding matching concluding
+followed-unmet g a m unmet f = record {
+  word = λ A. sym (max-zero (bit (f .word) A)) ∙ ap (λ (s : ℕ). max (bit (f .word) A) (min 1 s))
+      (sym (byLeft-cong g a _ (λ R S. 0) (λ b l e. ap (λ (x : ℕ). x * bit (2 ^ pairRule g b .symbol) A) (unmet b l e) ∙ zero-mul _) ∙ byLeft-none g a (pairCount g)));
+  count = sym (add-zero (f .count)) ∙ ap (λ (s : ℕ). f .count + s) (sym (byLeft-cong g a _ (λ R S. 0) unmet ∙ byLeft-none g a (pairCount g)));
+}
+
 module _ (g : Grammar) (t : List ℕ) (p : Grouped g t) (v a : ℕ) (small : a < 64) where
   -- the right symbol of a rule of the group stands in its union
   right-stands : (b : ℕ) → b < pairCount g → pairRule g b .left ≡ a → bit (groupNeeds t a) (pairRule g b .right) ≡ 1
@@ -59,18 +69,14 @@ module _ (g : Grammar) (t : List ℕ) (p : Grouped g t) (v a : ℕ) (small : a <
 
   -- none of them matches
   module _ (none : bitAnd v (groupNeeds t a) ≡ 0) where
-    unmet : (b : ℕ) → b < pairCount g → pairRule g b .left ≡ a → meet v (2 ^ pairRule g b .right) ≡ 0
-    unmet b l e =
+    pub needed-absent : (b : ℕ) → b < pairCount g → pairRule g b .left ≡ a → bit v (pairRule g b .right) ≡ 0
+    needed-absent b l e =
         let z : bit (bitAnd v (groupNeeds t a)) (pairRule g b .right) ≡ 0 = ap (λ (x : ℕ). bit x (pairRule g b .right)) none ∙ bit-of-zero _ in
-        meet-one v (pairRule g b .right) ∙ omega (arith, both b, right-stands b l e)
+        omega (arith, both b, right-stands b l e)
 
-    pub followed-none : (f : Fired) → Followed g v a f f
-    unfolding matching concluding
-    followed-none f = record {
-      word = λ A. sym (max-zero (bit (f .word) A)) ∙ ap (λ (s : ℕ). max (bit (f .word) A) (min 1 s))
-          (sym (byLeft-cong g a _ (λ R S. 0) (λ b l e. ap (λ (x : ℕ). x * bit (2 ^ pairRule g b .symbol) A) (unmet b l e) ∙ zero-mul _) ∙ byLeft-none g a (pairCount g)));
-      count = sym (add-zero (f .count)) ∙ ap (λ (s : ℕ). f .count + s) (sym (byLeft-cong g a _ (λ R S. 0) unmet ∙ byLeft-none g a (pairCount g)));
-    }
+    pub followed-none : (f : Fired) → Followed g (over v) a f f
+    unfolding over
+    followed-none = followed-unmet g a (over v) (λ b l e. meet-one v (pairRule g b .right) ∙ needed-absent b l e)
 
   -- all of them match
   module _ (all : bitAnd v (groupNeeds t a) ≡ groupNeeds t a) where
@@ -80,8 +86,8 @@ module _ (g : Grammar) (t : List ℕ) (p : Grouped g t) (v a : ℕ) (small : a <
         meet-one v (pairRule g b .right) ∙ omega (arith, both b, bit-lt v (pairRule g b .right))
 
     pub followed-all : (was now : Fired) → now .word ≡ bitOr (was .word) (groupGives t a) → now .count ≡ was .count + (groupTo t a - groupFrom t a)
-        → Followed g v a was now
-    unfolding matching concluding symbolIs
+        → Followed g (over v) a was now
+    unfolding matching concluding over symbolIs
     followed-all was now w c = record {
       word = λ A.
           ap (λ (x : ℕ). bit x A) w ∙ bit-or (was .word) (groupGives t a) A

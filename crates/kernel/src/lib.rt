@@ -1,13 +1,16 @@
-// The rules over words: the event rules over an event, and the pair rules over the words of two cells.
+// The rules over words: the event rules over an event, the pair rules over the words of two cells, and over marks all splits at once.
 ghost use mathlib.Core.Path.{_≡_};
-ghost use Prim.Native.Nat.{_+_, _≤_, _<_, _^_};
+ghost use Prim.Native.Nat.{_+_, _*_, _≤_, _<_, _^_};
+ghost use lib.ListN.{length};
 ghost use Rattle.bits.specs.Truth.{same};
+ghost use Rattle.bits.specs.Bit.{meet};
 ghost use Rattle.derivation.specs.Grammar.{leafCount, eventRule};
 ghost use Rattle.layout.specs.Layout.{decode};
 ghost use Rattle.image.specs.Image.{Accepted};
-ghost use Rattle.kernel.specs.Fire.{Noted, Concluded, LeafFired};
+ghost use Rattle.kernel.specs.Fire.{Noted, Concluded, Met, LeafFired};
 ghost use Rattle.groups.specs.Group.{Grouped};
-ghost use Rattle.kernel.specs.Follow.{Followed};
+ghost use Rattle.marks.specs.Mark.{Told, SeenIn};
+ghost use Rattle.kernel.specs.Follow.{Followed, over, along};
 
 // A cell's word so far, and the matches counted so far.
 pub struct Fired {
@@ -15,16 +18,16 @@ pub struct Fired {
     pub count: u64,
 }
 
-// A rule's match, which is 0 for none: where there is one, its symbol goes into the word, and it counts.
-fn note(hit: u64, symbol: u64, was: Fired) -> Fired
-    requires { ⌜ was .count < 2 ^ 62 ⌝ }
-    ensures { λ f. ⌜ Noted hit symbol was f ⌝ }
+// A rule's matches: where there is one, its symbol goes into the word, and all count.
+fn note(matches: u64, symbol: u64, was: Fired) -> Fired
+    requires { ⌜ (was .count < 2 ^ 62) × (matches ≤ 128) ⌝ }
+    ensures { λ f. ⌜ Noted matches symbol was f ⌝ }
 {
-    if hit == 0 {
+    if matches == 0 {
         return was;
     }
     let word = was.word | symbol;
-    let count = was.count + 1;
+    let count = was.count + matches;
     Fired { word, count }
 }
 
@@ -65,14 +68,21 @@ pub fn fire_leaves(image: &[u8], event: usize) -> Fired
     f
 }
 
-// ---- pair rules
+// ---- pair rules over two words
+
+// 1 where two words have a bit in common, else 0.
+fn shares(v: u64, w: u64) -> u64
+    ensures { λ h. ⌜ (h ≡ meet v w) × (h < 2) ⌝ }
+{
+    if v & w == 0 { 0 } else { 1 }
+}
 
 // The pair rules with the left symbol a, one by one, over the right word.
 fn follow(image: &[u8], table: &[u64; 768], a: usize, right: u64, into: Fired) -> Fired
     requires { ⌜ Accepted (now image) ⌝ }
     requires { ⌜ Grouped (decode (now image)) (now table) ⌝ }
     requires { ⌜ (a < 64) × (into .count + 256 < 2 ^ 62) ⌝ }
-    ensures { λ f. ⌜ Followed (decode (now (image .entry))) right a into f ⌝ }
+    ensures { λ f. ⌜ Followed (decode (now (image .entry))) (over right) a into f ⌝ }
 {
     let mut f = into;
     let head = 4 * a;
@@ -82,7 +92,8 @@ fn follow(image: &[u8], table: &[u64; 768], a: usize, right: u64, into: Fired) -
         let at = 256 + 2 * x;
         let r = table[at];
         let symbol = table[at + 1];
-        f = note(right & r, symbol, f);
+        let hit = shares(right, r);
+        f = note(hit, symbol, f);
         x += 1;
     }
     f
@@ -94,7 +105,7 @@ fn fire_group(image: &[u8], table: &[u64; 768], a: usize, right: u64, into: Fire
     requires { ⌜ Accepted (now image) ⌝ }
     requires { ⌜ Grouped (decode (now image)) (now table) ⌝ }
     requires { ⌜ (a < 64) × (into .count + 256 < 2 ^ 62) ⌝ }
-    ensures { λ f. ⌜ Followed (decode (now (image .entry))) right a into f ⌝ }
+    ensures { λ f. ⌜ Followed (decode (now (image .entry))) (over right) a into f ⌝ }
 {
     let head = 4 * a;
     let needs = table[head + 2];
@@ -125,6 +136,91 @@ pub fn fire_pairs(image: &[u8], table: &[u64; 768], left: u64, right: u64, into:
     while rest != 0 {
         let a = bits::first_bit(rest);
         f = fire_group(image, table, a, right, f);
+        rest = bits::without(rest, a);
+    }
+    f
+}
+
+// ---- pair rules over marks
+
+// The pair rules with the left symbol a, one by one, over the marks of block r and of the column.
+fn follow_marks(
+    image: &[u8],
+    table: &[u64; 768],
+    marks: &[u64],
+    r: usize,
+    column: &[u64],
+    a: usize,
+    into: Fired,
+) -> Fired
+    requires { ⌜ Accepted (now image) ⌝ }
+    requires { ⌜ Grouped (decode (now image)) (now table) ⌝ }
+    requires { ⌜ (r < 96) × (131 * r + 131 ≤ length (now marks)) × (131 ≤ length (now column)) ⌝ }
+    requires { ⌜ (a < 64) × (into .count + 32768 < 2 ^ 62) ⌝ }
+    ensures { λ f. ⌜ Followed (decode (now (image .entry))) (along (now (marks .entry)) r a (now (column .entry))) a into f ⌝ }
+{
+    let mut f = into;
+    let head = 4 * a;
+    let mut x = table[head] as usize;
+    let end = table[head + 1] as usize;
+    while x < end {
+        let at = 256 + 2 * x;
+        let c = bits::first_bit(table[at]);
+        let symbol = table[at + 1];
+        let matches = marks::meeting(marks, r, a, column, c);
+        f = note(matches, symbol, f);
+        x += 1;
+    }
+    f
+}
+
+// The pair rules with the left symbol a: where none of their right symbols is seen in the column, they need not be followed.
+fn fire_marked_group(
+    image: &[u8],
+    table: &[u64; 768],
+    marks: &[u64],
+    r: usize,
+    column: &[u64],
+    right: u64,
+    a: usize,
+    into: Fired,
+) -> Fired
+    requires { ⌜ Accepted (now image) ⌝ }
+    requires { ⌜ Grouped (decode (now image)) (now table) ⌝ }
+    requires { ⌜ (r < 96) × (131 * r + 131 ≤ length (now marks)) × (131 ≤ length (now column)) × SeenIn (now column) 0 right ⌝ }
+    requires { ⌜ (a < 64) × (into .count + 32768 < 2 ^ 62) ⌝ }
+    ensures { λ f. ⌜ Followed (decode (now (image .entry))) (along (now (marks .entry)) r a (now (column .entry))) a into f ⌝ }
+{
+    let needs = table[4 * a + 2];
+    if right & needs == 0 {
+        return into;
+    }
+    follow_marks(image, table, marks, r, column, a, into)
+}
+
+// All the pair rules over all splits at once: for each symbol that is seen in block r, the rules whose left symbol it is.
+pub fn fire_marks(
+    image: &[u8],
+    table: &[u64; 768],
+    marks: &[u64],
+    r: usize,
+    column: &[u64],
+) -> Fired
+    requires { ⌜ Accepted (now image) ⌝ }
+    requires { ⌜ Grouped (decode (now image)) (now table) ⌝ }
+    requires { ⌜ (r < 96) × (131 * r + 131 ≤ length (now marks)) × (131 ≤ length (now column)) ⌝ }
+    requires { ⌜ Told (now marks) × Told (now column) ⌝ }
+    ensures { λ f. ⌜ Met (decode (now (image .entry))) (now (marks .entry)) r (now (column .entry)) f × (f .count ≤ 32768) ⌝ }
+{
+    let mut f = Fired { word: 0, count: 0 };
+    if marks::apart(marks, r, column) {
+        return f;
+    }
+    let right = marks::seen(column, 0);
+    let mut rest = marks::seen(marks, r);
+    while rest != 0 {
+        let a = bits::first_bit(rest);
+        f = fire_marked_group(image, table, marks, r, column, right, a, f);
         rest = bits::without(rest, a);
     }
     f

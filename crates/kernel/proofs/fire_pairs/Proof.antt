@@ -2,14 +2,18 @@
 -- Assumes nothing.
 use borrow.Author.Needs.{needs}
 use native.Mathlib.Omega.{arith}
+use Prim.Native.Nat.{ℕ, _<_}
+use Rattle.derivation.specs.Grammar.{pairCount, pairRule}
 use Rattle.layout.specs.Layout.{decode}
-use Rattle.groups.proofs.Read.{left-small}
-use Rattle.kernel.proofs.Visits.{Visit, visit-start, visit-step, visit-few, visit-done, none-right}
+use Rattle.groups.proofs.Read.{parts-small}
+use Rattle.kernel.specs.Follow.{over}
+use Rattle.kernel.proofs.Visits.{Visit, visit-start, visit-step, visit-few}
+use Rattle.kernel.proofs.Pairs.{over-le, none-right, concluded-all}
 use Rattle.kernel.proofs.fire_pairs.Statement.{statement}
 use Rattle.kernel.proofs.fire_pairs.Tie as tie
 
 abbrev Inv-loop : tie.InvT-loop
-Inv-loop image table left right f₀ rest₀ f rest = Visit (decode image) left right f₀ f rest
+Inv-loop image table left right f₀ rest₀ f rest = Visit (decode image) left (λ (s : ℕ). over right) f₀ f rest
 
 abbrev μ-loop : tie.MeasureT-loop
 μ-loop image table left right f₀ rest₀ f rest = rest
@@ -26,7 +30,7 @@ first-bit-requires c κs = search needs
 fire-group-requires : tie.Need-fire-group-requires Inv-loop μ-loop
 fire-group-requires c κs =
     let s = c .before .before .before .before .before in
-    let n = visit-few (decode (s .args .image .now)) (s .args .left) (s .args .right) (left-small _ (s .pre .0 .sound)) _ _ _ (c .before .before .loop .inv) in
+    let n = visit-few _ _ _ (λ b l. parts-small _ (s .pre .0 .sound) b l .0) _ _ _ 1 (λ b l. over-le _ _) (c .before .before .loop .inv) in
     (s .pre .0, (s .pre .1 .0, (c .first-bit .ensures .0, omega (arith, s .pre .0 .sound .range .pairs))))
 
 without-requires : tie.Need-without-requires Inv-loop μ-loop
@@ -43,10 +47,11 @@ loop-again c =
 returns-2 : tie.Need-returns-2 Inv-loop μ-loop
 returns-2 c =
     let s = c .before .before .before .before in
-    let fits = left-small (decode (s .args .image .now)) (s .pre .0 .sound) in
+    let g = decode (s .args .image .now) in
+    let fits : (b : ℕ) → b < pairCount g → pairRule g b .left < 64 = λ b l. parts-small g (s .pre .0 .sound) b l .0 in
     let w = c .before .loop .inv in (
-      visit-done _ _ _ fits _ _ _ (omega arith) w,
-      omega (arith, visit-few (decode (s .args .image .now)) (s .args .left) (s .args .right) fits _ _ _ w, s .pre .0 .sound .range .pairs),
+      concluded-all _ _ _ fits _ _ _ (omega arith) w,
+      omega (arith, visit-few _ _ _ fits _ _ _ 1 (λ b l. over-le _ _) w, s .pre .0 .sound .range .pairs),
     )
 
 pub fire-pairs-spec : {M : Type 1} → statement M

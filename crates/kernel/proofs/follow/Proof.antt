@@ -1,11 +1,13 @@
 -- The invariant: the places of the group before x are walked.
 -- Assumes nothing.
-use mathlib.Core.Path.{_≡_, subst₂}
+use mathlib.Core.Path.{_≡_, sym, _∙_, subst₂}
 use Prim.Native.Nat.{ℕ, _+_, _-_, _≤_}
 use Rattle.derivation.specs.Grammar.{pairCount}
 use Rattle.layout.specs.Layout.{decode}
 use Rattle.groups.specs.Group.{lefts, groupFrom}
 use Rattle.groups.proofs.Places.{Ends, ends-of}
+use Rattle.kernel.specs.Follow.{over}
+use Rattle.kernel.proofs.Pairs.{over-is, over-le}
 use Rattle.kernel.proofs.Follows.{Walk, walk-start, walk-le, walk-step, walk-done}
 use borrow.Author.Needs.{needs}
 use native.Mathlib.Omega.{arith}
@@ -13,7 +15,7 @@ use Rattle.kernel.proofs.follow.Statement.{statement}
 use Rattle.kernel.proofs.follow.Tie as tie
 
 abbrev Inv-loop : tie.InvT-loop
-Inv-loop image table a right f₀ head x₀ end f x = (x₀ ≤ x) × (x ≤ end) × (end ≤ 256) × Walk right x₀ table f₀ f (x - x₀)
+Inv-loop image table a right f₀ head x₀ end f x = (x₀ ≤ x) × (x ≤ end) × (end ≤ 256) × Walk (over right) x₀ table f₀ f (x - x₀)
 
 abbrev μ-loop : tie.MeasureT-loop
 μ-loop image table a right f₀ head x₀ end f x = end - x
@@ -70,9 +72,14 @@ mul-symbol c = search needs
 element-copy-out-symbol : tie.Need-element-copy-out-symbol Inv-loop μ-loop
 element-copy-out-symbol c = search needs
 
+shares-requires : tie.Need-shares-requires Inv-loop μ-loop
+shares-requires c κs = search needs
+
 note-requires : tie.Need-note-requires Inv-loop μ-loop
 note-requires c κs =
-    omega (arith, walk-le _ _ _ _ _ _ (c .before .before .before .loop .inv .3), c .before .before .before .before .before .before .before .pre .1 .1 .1)
+    let l = c .before .before .before .before .loop in
+    let s = c .before .before .before .before .before .before .before .before in
+    (omega (arith, walk-le _ _ _ _ _ _ 1 (λ y h. over-le _ _) (l .inv .3), s .pre .1 .1 .1), omega (arith, c .shares .ensures .1))
 
 add-x : tie.Need-add-x Inv-loop μ-loop
 add-x c = search needs
@@ -82,11 +89,11 @@ loop-less c = search needs
 
 loop-again : tie.Need-loop-again Inv-loop μ-loop
 loop-again c =
-    let l = c .before .before .before .before .loop in
-    let s = c .before .before .before .before .before .before .before .before .args in
+    let l = c .before .before .before .before .before .loop in
+    let s = c .before .before .before .before .before .before .before .before .before .args in
     let o = groupFrom (s .table .now) (s .a) in
     let d : l .x + 1 - o ≡ l .x - o + 1 = omega arith in
-    (omega arith, omega arith, omega arith, rw d (walk-step _ _ _ _ _ _ (l .x - o) (l .x) (l .inv .3) (omega arith) (c .note .ensures)))
+    (omega arith, omega arith, omega arith, rw d (walk-step _ _ _ _ _ _ (l .x - o) (l .x) _ (l .inv .3) (omega arith) (c .before .shares .ensures .0 ∙ sym (over-is _ _)) (c .note .ensures)))
 
 returns : tie.Need-returns Inv-loop μ-loop
 returns c =
@@ -95,8 +102,8 @@ returns c =
     let e = ends s in
     let g = decode (s .args .image .now) in
     let d : l .x - groupFrom (s .args .table .now) (s .args .a) ≡ lefts g (s .args .a) (pairCount g) = omega (arith, e .from, e .to) in
-    walk-done g _ (s .pre .1 .0) (s .args .right) (s .args .a) (s .pre .1 .1 .0) _ _
-    (subst₂ (λ (o m : ℕ). Walk (s .args .right) o (s .args .table .now) (s .args .into) (l .f) m) (e .from) d (l .inv .3))
+    walk-done g _ (s .pre .1 .0) (over (s .args .right)) (s .args .a) (s .pre .1 .1 .0) _ _
+    (subst₂ (λ (o m : ℕ). Walk (over (s .args .right)) o (s .args .table .now) (s .args .into) (l .f) m) (e .from) d (l .inv .3))
 
 pub follow-spec : {M : Type 1} → statement M
 follow-spec =
@@ -118,6 +125,7 @@ follow-spec =
     add-symbol
     mul-symbol
     element-copy-out-symbol
+    shares-requires
     note-requires
     add-x
     loop-less

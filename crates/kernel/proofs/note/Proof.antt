@@ -1,7 +1,7 @@
--- With no match nothing changes; with one the bits of the symbol go in, and the count is one more.
+-- With no match nothing changes; with some the bits of the symbol go in, and each counts.
 -- Assumes nothing.
 use mathlib.Core.Path.{refl}
-use Rattle.kernel.proofs.Follows.{none-noted, one-noted}
+use Rattle.kernel.proofs.Follows.{none-noted, some-noted}
 use native.Mathlib.Omega.{arith}
 use borrow.Author.Needs.{needs}
 use Rattle.kernel.proofs.note.Statement.{statement}
@@ -14,7 +14,7 @@ add-count : tie.Need-add-count
 add-count c = search needs
 
 returns-2 : tie.Need-returns-2
-returns-2 c = one-noted _ _ _ _ (omega (arith, c .before .before .if1 .left)) refl refl
+returns-2 c = some-noted _ _ _ _ (omega (arith, c .before .before .if1 .left)) refl refl
 
 pub note-spec : {M : Type 1} → statement M
 note-spec = tie.close (tie.spec returns add-count returns-2)

@@ -1,10 +1,16 @@
--- The word worked out is stored where the cell's number says, and nowhere else.
+-- The word worked out is stored where the cell's number says, and nowhere else, and marked.
 -- Assumes nothing.
+use Rattle.chart.proofs.Fills.{cell-stored}
+use Rattle.chart.proofs.Shows.{shown-stored}
 use native.Mathlib.Omega.{arith}
 use borrow.Author.Needs.{needs}
-use Rattle.chart.proofs.Fills.{cell-stored}
 use Rattle.chart.proofs.fill.fill_cell.Statement.{statement}
 use Rattle.chart.proofs.fill.fill_cell.Tie as tie
+use Rattle.chart.proofs.fill.fill_cell.Reads as reads
+use Rattle.chart.proofs.fill.fill_cell.Lts as lts
+use Rattle.marks.proofs.mark_cell.Reads as mark-cell-reads
+use Rattle.chart.proofs.fill.work_cell.Reads as work-cell-reads
+use Rattle.derivation.proofs.cell_at.Reads as cell-at-reads
 
 work-cell-requires : tie.Need-work-cell-requires
 work-cell-requires c κs = search needs
@@ -18,13 +24,42 @@ mul-chart c = search needs
 slice-write-chart : tie.Need-slice-write-chart
 slice-write-chart c = search needs
 
+mark-cell-requires : tie.Need-mark-cell-requires
+mark-cell-requires c κs =
+    let p = c .before .before .before .before .before .before .before .before .before .before .before .pre in
+    (p .1 .1 .0 .0, λ there. let m = p .1 .1 .1 there in (m .0 .few, m .1 .room))
+
 same-length : tie.Need-same-length
 same-length c = search needs
 
+same-length-2 : tie.Need-same-length-2
+same-length-2 c = search needs
+
+same-length-3 : tie.Need-same-length-3
+same-length-3 c = search needs
+
 returns : tie.Need-returns
-returns c = (cell-stored _ _ _ _ _ (c .before .work-cell .result) (c .cell-at .ensures) (omega arith) (c .before .work-cell .ensures .0), c .before .work-cell .ensures .1)
+returns c =
+    let w = c .before .before .before .before .before .before .before .before in
+    let at = c .before .before .before .before .before .before .before .cell-at .ensures in
+    let s = w .before .before .before .before .before .before .before .before in
+    let p = s .pre in
+    let m = c .before .before .before .before .mark-cell .ensures in (
+      cell-stored _ _ _ _ _ (w .work-cell .result) at (omega arith) (w .work-cell .ensures .0),
+      w .work-cell .ensures .1,
+      shown-stored (s .args .chart .now) _ _ _ _ _ _ _ _ (p .1 .1 .0 .0) at (omega arith) m (p .1 .1 .1),
+    )
 
 pub fill-cell-spec : {M : Type 1} → statement M
 fill-cell-spec =
     tie.close
-    (tie.spec work-cell-requires cell-at-requires mul-chart slice-write-chart same-length returns)
+    (tie.spec
+    work-cell-requires
+    cell-at-requires
+    mul-chart
+    slice-write-chart
+    mark-cell-requires
+    same-length
+    same-length-2
+    same-length-3
+    returns)

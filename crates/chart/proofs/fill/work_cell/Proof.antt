@@ -1,71 +1,34 @@
--- The invariant: the splits before j are done, and each adds at most 256 matches.
+-- By the walk, or by the marks, which show the cells that the walk would read.
 -- Assumes nothing.
-use mathlib.Core.Path.{_≡_, refl}
-use Prim.Native.Nat.{_+_, _-_, _*_, _≤_, _<_}
-use Rattle.derivation.proofs.Columns.{column-mono}
-use Rattle.layout.specs.Layout.{decode}
-use Rattle.chart.proofs.Fills.{Splits, splits-start, splits-step, splits-done}
-use borrow.Author.Needs.{needs}
+use Rattle.groups.proofs.Read.{parts-small}
+use Rattle.chart.proofs.Shows.{cell-met}
 use native.Mathlib.Omega.{arith}
+use borrow.Author.Needs.{needs}
 use Rattle.chart.proofs.fill.work_cell.Statement.{statement}
 use Rattle.chart.proofs.fill.work_cell.Tie as tie
+use Rattle.chart.proofs.fill.work_cell.Reads as reads
+use Rattle.chart.proofs.fill.work_cell.Lts as lts
+use Rattle.chart.proofs.fill.walk_cell.Reads as walk-cell-reads
+use Rattle.kernel.proofs.fire_marks.Reads as fire-marks-reads
 
-abbrev Inv-loop : tie.InvT-loop
-Inv-loop image table chart i k f₀ j₀ f j =
-    (i < j) × (j ≤ k) × (f .count ≤ 256 * (j - (i + 1))) × Splits (decode image) chart i k f j
+walk-cell-requires : tie.Need-walk-cell-requires
+walk-cell-requires c κs = search needs
 
-abbrev μ-loop : tie.MeasureT-loop
-μ-loop image table chart i k f₀ j₀ f j = k - j
+returns : tie.Need-returns
+returns c = search needs
 
-add-j : tie.Need-add-j Inv-loop μ-loop
-add-j c = search needs
+fire-marks-requires : tie.Need-fire-marks-requires
+fire-marks-requires c κs =
+    let p = c .before .before .before .before .before .pre in
+    let m = p .1 .1 .1 (omega (arith, c .if1 .left)) in
+    (p .0, (p .1 .0, ((omega (arith, m .0 .few), omega (arith, m .0 .few, c .if1 .left), m .1 .room), (m .0 .told, m .1 .told))))
 
-loop-holds : tie.Need-loop-holds Inv-loop μ-loop
-loop-holds c = (omega arith, omega arith, omega arith, splits-start _ _ _ _ _ refl refl)
-
-read-cell-requires : tie.Need-read-cell-requires Inv-loop μ-loop
-read-cell-requires c κs = omega (arith, column-mono (c .before .loop .j) (c .before .before .before .before .args .k) (c .loop-test .taken))
-
-read-cell-requires-2 : tie.Need-read-cell-requires-2 Inv-loop μ-loop
-read-cell-requires-2 c κs = omega arith
-
-fire-pairs-requires : tie.Need-fire-pairs-requires Inv-loop μ-loop
-fire-pairs-requires c κs = let p = c .before .before .before .before .before .before .pre in (p .0, (p .1 .0, omega arith))
-
-add-j-2 : tie.Need-add-j-2 Inv-loop μ-loop
-add-j-2 c = search needs
-
-loop-less : tie.Need-loop-less Inv-loop μ-loop
-loop-less c = search needs
-
-loop-again : tie.Need-loop-again Inv-loop μ-loop
-loop-again c =
-    let l = c .before .before .before .before .loop in
-    let o = c .fire-pairs .ensures in (
-      omega arith,
-      omega arith,
-      omega arith,
-      splits-step _ _ _ _ (l .j) (l .f) _ (l .inv .0) (l .inv .3)
-          (rw (← (c .before .before .read-cell .ensures), ← (c .before .read-cell2 .ensures)) (o .0)),
-    )
-
-returns : tie.Need-returns Inv-loop μ-loop
-returns c =
-    let e : c .before .loop .j ≡ c .before .before .before .before .args .k = omega arith in
-    (splits-done _ _ _ _ _ (rw e at (c .before .loop .inv .3)), omega arith)
+returns-2 : tie.Need-returns-2
+returns-2 c =
+    let p = c .before .before .before .before .before .before .pre in
+    let m = p .1 .1 .1 (omega (arith, c .before .if1 .left)) in
+    let f = c .fire-marks .ensures in
+    (cell-met _ _ _ _ _ _ (p .1 .1 .0 .0) (m .0) (m .1) (parts-small _ (p .0 .sound)) _ (f .0), omega (arith, f .1))
 
 pub work-cell-spec : {M : Type 1} → statement M
-work-cell-spec =
-    tie.close
-    (tie.spec
-    Inv-loop
-    μ-loop
-    add-j
-    loop-holds
-    read-cell-requires
-    read-cell-requires-2
-    fire-pairs-requires
-    add-j-2
-    loop-less
-    loop-again
-    returns)
+work-cell-spec = tie.close (tie.spec walk-cell-requires returns fire-marks-requires returns-2)

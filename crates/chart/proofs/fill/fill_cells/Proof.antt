@@ -1,0 +1,141 @@
+-- The invariant: the last x + 1 cells of the column are filled, and the marks show them.
+-- Assumes nothing.
+use mathlib.Core.Path.{_≡_, refl, _∙_}
+use Prim.Native.Nat.{ℕ, _+_, _-_, _*_, _≤_, _<_}
+use native.Mathlib.Nat.{sub-zero}
+use lib.ListN.{length, length-set}
+use Rattle.layout.specs.Layout.{decode}
+use Rattle.chart.specs.Fill.{inChart}
+use Rattle.marks.specs.Shown.{Shown}
+use Rattle.chart.proofs.Fills.{Part, part-start, part-step, part-done}
+use Rattle.chart.proofs.Shows.{shown-stored}
+use borrow.Author.Needs.{needs}
+use native.Mathlib.Omega.{arith}
+use Rattle.chart.proofs.fill.fill_cells.Statement.{statement}
+use Rattle.chart.proofs.fill.fill_cells.Tie as tie
+use Rattle.chart.proofs.fill.fill_cells.Reads as reads
+use Rattle.chart.proofs.fill.fill_cells.Lts as lts
+use Rattle.chart.proofs.fill.fill_cell.Reads as fill-cell-reads
+use Rattle.marks.proofs.mark_cell.Reads as mark-cell-reads
+use Rattle.derivation.proofs.cell_at.Reads as cell-at-reads
+use Rattle.kernel.proofs.fire_leaves.Reads as fire-leaves-reads
+
+abbrev Inv-loop : tie.InvT-loop
+Inv-loop image table lefts₀ rights₀ event chart₀ q k at count₀ x₀ lefts rights chart count x =
+    (x ≤ q) × (count ≤ 512 + 16777216 * x) × Part (decode image) event chart₀ chart q (q - x) count
+    × (length lefts ≡ length lefts₀) × (length rights ≡ length rights₀) × Shown 64 (inChart chart) lefts rights (q - x) (q + 1)
+
+abbrev μ-loop : tie.MeasureT-loop
+μ-loop image table lefts₀ rights₀ event chart₀ q k at count₀ x₀ lefts rights chart count x = q - x
+
+add-k : tie.Need-add-k Inv-loop μ-loop
+add-k c = search needs
+
+fire-leaves-requires : tie.Need-fire-leaves-requires Inv-loop μ-loop
+fire-leaves-requires c κs = search needs
+
+cell-at-requires : tie.Need-cell-at-requires Inv-loop μ-loop
+cell-at-requires c κs = search needs
+
+mul-chart : tie.Need-mul-chart Inv-loop μ-loop
+mul-chart c = search needs
+
+slice-write-chart : tie.Need-slice-write-chart Inv-loop μ-loop
+slice-write-chart c = search needs
+
+mark-cell-requires : tie.Need-mark-cell-requires Inv-loop μ-loop
+mark-cell-requires c κs =
+    let p = c .before .before .before .before .before .before .before .before .pre in
+    (omega arith, λ there. let m = p .1 .1 .1 there in (m .0 .few, m .1 .room))
+
+loop-holds : tie.Need-loop-holds Inv-loop μ-loop
+loop-holds c =
+    let s = c .before .before .before .before .before .before .before .before .before .before .before .before .before in
+    let a = s .args in
+    let at = c .before .before .before .before .before .before .before .cell-at .ensures in
+    let f = c .before .before .before .before .before .before .before .before .fire-leaves in
+    let m = c .before .before .before .before .mark-cell .ensures in (
+      omega arith,
+      omega arith,
+      rw (sub-zero (a .q)) (part-start _ _ _ _ (a .chart .now) (f .result) at (omega arith) (f .ensures .0)),
+      refl,
+      refl,
+      rw (sub-zero (a .q)) (shown-stored (a .chart .now) _ _ _ _ _ _ _ _ (omega arith) at (omega arith) m (s .pre .1 .1 .1)),
+    )
+
+sub-i : tie.Need-sub-i Inv-loop μ-loop
+sub-i c = search needs
+
+sub-i-2 : tie.Need-sub-i-2 Inv-loop μ-loop
+sub-i-2 c = search needs
+
+fill-cell-requires : tie.Need-fill-cell-requires Inv-loop μ-loop
+fill-cell-requires c κs =
+    let l = c .before .before .before .before .loop in
+    let a = c .before .before .before .before .before .before .before .before .before .before .before .before .before .before .before .before .before .before in
+    let h : length (l .chart) ≡ length (a .args .chart .now) = l .inv .2 .long ∙ simp length-set in
+    let d : a .args .q - 1 - l .x + 1 ≡ a .args .q - l .x = omega arith in
+    (a .pre .0, (a .pre .1 .0, (omega arith, rw d (l .inv .5))))
+
+add-count : tie.Need-add-count Inv-loop μ-loop
+add-count c = omega (arith, c .before .before .before .before .before .before .fill-cell .ensures .1, c .before .before .before .before .before .before .before .before .before .before .before .loop .inv .1, c .before .before .before .before .before .before .before .before .before .before .loop-test .taken, c .before .before .before .before .before .before .before .before .before .before .before .before .before .before .before .before .before .before .before .before .before .before .before .before .before .pre .1 .1 .0 .0)
+
+add-x : tie.Need-add-x Inv-loop μ-loop
+add-x c = search needs
+
+loop-less : tie.Need-loop-less Inv-loop μ-loop
+loop-less c = search needs
+
+loop-again : tie.Need-loop-again Inv-loop μ-loop
+loop-again c =
+    let f = c .before .before .before .before .before .before .fill-cell in
+    let l = c .before .before .before .before .before .before .before .before .before .before .before .loop in
+    let q = c .before .before .before .before .before .before .before .before .before .before .before .before .before .before .before .before .before .before .before .before .before .before .before .before .before .args .q in
+    let d : q - (l .x + 1) ≡ q - 1 - l .x = omega arith in (
+      omega arith,
+      omega arith,
+      rw d (part-step _ _ _ (q - l .x) _ _ _ _ _ _ (l .inv .2) (f .ensures .0) (omega arith) (omega arith)),
+      f .kept .1 .1 .0 ∙ l .inv .3,
+      f .kept .1 .1 .1 .0 ∙ l .inv .4,
+      rw d (f .ensures .2),
+    )
+
+same-length : tie.Need-same-length Inv-loop μ-loop
+same-length c = search needs
+
+same-length-2 : tie.Need-same-length-2 Inv-loop μ-loop
+same-length-2 c = search needs
+
+same-length-3 : tie.Need-same-length-3 Inv-loop μ-loop
+same-length-3 c = c .before .loop .inv .2 .long ∙ simp length-set
+
+returns : tie.Need-returns Inv-loop μ-loop
+returns c =
+    let q = c .before .before .before .before .before .before .before .before .before .before .before .before .before .before .before .args .q in
+    let z : q - c .before .loop .x ≡ 0 = omega arith in
+    (part-done _ _ _ _ _ _ _ _ (c .before .before .before .before .before .before .before .before .before .cell-at .ensures) (rw z at (c .before .loop .inv .2)), omega arith, rw z at (c .before .loop .inv .5))
+
+pub fill-cells-spec : {M : Type 1} → statement M
+fill-cells-spec =
+    tie.close
+    (tie.spec
+    Inv-loop
+    μ-loop
+    add-k
+    fire-leaves-requires
+    cell-at-requires
+    mul-chart
+    slice-write-chart
+    mark-cell-requires
+    loop-holds
+    sub-i
+    sub-i-2
+    fill-cell-requires
+    add-count
+    add-x
+    loop-less
+    loop-again
+    same-length
+    same-length-2
+    same-length-3
+    returns)

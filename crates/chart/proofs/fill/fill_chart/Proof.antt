@@ -1,0 +1,56 @@
+-- Without marks, or with marks that start empty.
+-- Assumes nothing.
+use Rattle.marks.proofs.Shows.{lefts-start}
+use native.Mathlib.Omega.{arith}
+use borrow.Author.Needs.{needs}
+use Rattle.chart.proofs.fill.fill_chart.Statement.{statement}
+use Rattle.chart.proofs.fill.fill_chart.Tie as tie
+use Rattle.chart.proofs.fill.fill_chart.Reads as reads
+use Rattle.chart.proofs.fill.fill_chart.Lts as lts
+use Rattle.chart.proofs.fill.fill_columns.Reads as fill-columns-reads
+use Rattle.groups.proofs.group_rules.Reads as group-rules-reads
+
+group-rules-requires : tie.Need-group-rules-requires
+group-rules-requires c κs = search needs
+
+slice-aggregate-fill-columns : tie.Need-slice-aggregate-fill-columns
+slice-aggregate-fill-columns c = search needs
+
+fill-columns-requires : tie.Need-fill-columns-requires
+fill-columns-requires c κs =
+    let p = c .before .before .before .before .before .before .before .before .pre in
+    (p .0, (c .before .before .before .before .group-rules .ensures, ((omega arith, p .1 .1), λ there. absurd (omega (arith, there)))))
+
+same-length : tie.Need-same-length
+same-length c = search needs
+
+returns : tie.Need-returns
+returns c = search needs
+
+slice-aggregate-fill-columns-2 : tie.Need-slice-aggregate-fill-columns-2
+slice-aggregate-fill-columns-2 c = search needs
+
+fill-columns-requires-2 : tie.Need-fill-columns-requires-2
+fill-columns-requires-2 c κs =
+    let p = c .before .before .before .before .before .before .before .before .pre in
+    (p .0, (c .before .before .before .before .group-rules .ensures, ((omega arith, p .1 .1), λ there. (p .1 .0, lefts-start _ _ 12576 (omega arith)))))
+
+same-length-2 : tie.Need-same-length-2
+same-length-2 c = search needs
+
+returns-2 : tie.Need-returns-2
+returns-2 c = search needs
+
+pub fill-chart-spec : {M : Type 1} → statement M
+fill-chart-spec =
+    tie.close
+    (tie.spec
+    group-rules-requires
+    slice-aggregate-fill-columns
+    fill-columns-requires
+    same-length
+    returns
+    slice-aggregate-fill-columns-2
+    fill-columns-requires-2
+    same-length-2
+    returns-2)

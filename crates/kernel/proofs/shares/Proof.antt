@@ -1,0 +1,20 @@
+-- `meet` by a test.
+-- Assumes nothing.
+use Rattle.bits.specs.Bit.{meet}
+use borrow.Author.Needs.{needs}
+use native.Mathlib.Omega.{arith}
+use Rattle.kernel.proofs.shares.Statement.{statement}
+use Rattle.kernel.proofs.shares.Tie as tie
+use Rattle.kernel.proofs.shares.Reads as reads
+use Rattle.kernel.proofs.shares.Lts as lts
+
+returns : tie.Need-returns
+unfolding meet
+returns c = (omega (arith, c .if1 .taken), omega arith)
+
+returns-2 : tie.Need-returns-2
+unfolding meet
+returns-2 c = (omega (arith, c .if1 .left), omega arith)
+
+pub shares-spec : {M : Type 1} → statement M
+shares-spec = tie.close (tie.spec returns returns-2)
