@@ -6,3 +6,4 @@ pub mod Bits
 pub mod Words
 pub mod First
 pub mod Sets
+pub mod Visited

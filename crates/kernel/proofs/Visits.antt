@@ -9,15 +9,12 @@ use Rattle.bits.specs.Truth.{same}
 use Rattle.bits.specs.Sum.{sum}
 use Rattle.bits.specs.Bit.{bit, Without}
 use Rattle.bits.proofs.Sums.{sum-cong, sum-zero, sum-swap, sum-scale, sum-add, sum-mono, sum-le, sum-at, some-left}
-use Rattle.bits.proofs.Bits.{bit-lt, bit-of-zero}
+use Rattle.bits.proofs.Bits.{bit-lt}
+use Rattle.bits.proofs.Visited.{visited, none-visited, all-visited, part-less, one-visited, visited-le}
 use Rattle.derivation.specs.Grammar.{Grammar, pairCount, pairRule}
 use Rattle.groups.specs.Group.{byLeft}
 use Rattle.kernel.specs.declared.Fired.{Fired}
 use Rattle.kernel.specs.Follow.{matching, concluding, Followed}
-
--- F of each symbol of u that is not in rest, added up
-unfoldable pub visited : (u rest : ℕ) → (ℕ → ℕ) → ℕ
-visited u rest F = sum 64 (λ s. (bit u s - bit rest s) * F s)
 
 -- m s R: how often the left symbol s and a right symbol with the word R match
 module _ (g : Grammar) (u : ℕ) (m : ℕ → ℕ → ℕ) where
@@ -34,48 +31,21 @@ module _ (g : Grammar) (u : ℕ) (m : ℕ → ℕ → ℕ) where
     pub word : (A : ℕ) → bit (now .word) A ≡ max (bit (was .word) A) (min 1 (visited u rest (λ s. byLeft g s (concluding (m s) A) (pairCount g))))
     pub count : now .count ≡ was .count + visited u rest (λ s. byLeft g s (matching (m s)) (pairCount g))
 
-  none-visited : (F : ℕ → ℕ) → visited u u F ≡ 0
-  unfolding visited
-  none-visited F = sum-zero 64 _ (λ s l. let e : bit u s - bit u s ≡ 0 = omega arith in rw e (omega arith))
-
-  all-visited : (F : ℕ → ℕ) → visited u 0 F ≡ sum 64 (λ s. bit u s * F s)
-  unfolding visited
-  all-visited F = sum-cong 64 _ _ (λ s l. rw (bit-of-zero s, sub-zero (bit u s)))
-
-  -- one symbol more
-  module _ (rest a less : ℕ) (part : (s : ℕ) → bit rest s ≤ bit u s) (w : Without rest a less) (small : a < 64) where
-    part-less : (s : ℕ) → bit less s ≤ bit u s
-    part-less s = omega (arith, part s, w .bits s)
-
-    one-visited : (F : ℕ → ℕ) → visited u less F ≡ visited u rest F + F a
-    unfolding visited
-    one-visited F =
-        sum-cong 64 _ _ (λ s l. split (bit u s) (bit rest s) (bit less s) (same a s) (F s) (part s) (w .bits s))
-        ∙ sum-add 64 (λ s. (bit u s - bit rest s) * F s) (λ s. F s * same a s)
-        ∙ ap (λ (x : ℕ). sum 64 (λ s. (bit u s - bit rest s) * F s) + x) (sum-at 64 a F small)
-      where
-        split : (x y z e f : ℕ) → y ≤ x → z + e ≡ y → (x - z) * f ≡ (x - y) * f + f * e
-        split x y z e f p q = let d : x - z ≡ x - y + e = omega arith in rw d (omega arith)
-
   pub visit-start : (f : Fired) → Visit f f u
   visit-start f = record {
     part = λ s. omega arith;
-    word = λ A. sym (max-zero (bit (f .word) A)) ∙ ap (λ (s : ℕ). max (bit (f .word) A) (min 1 s)) (sym (none-visited _));
-    count = sym (add-zero (f .count)) ∙ ap (λ (s : ℕ). f .count + s) (sym (none-visited _));
+    word = λ A. sym (max-zero (bit (f .word) A)) ∙ ap (λ (s : ℕ). max (bit (f .word) A) (min 1 s)) (sym (none-visited u _));
+    count = sym (add-zero (f .count)) ∙ ap (λ (s : ℕ). f .count + s) (sym (none-visited u _));
   }
 
   pub visit-step : (was f h : Fired) (rest a less : ℕ) → a < 64 → Without rest a less → Visit was f rest → Followed g (m a) a f h → Visit was h less
   visit-step was f h rest a less small n w o = record {
-    part = part-less rest a less (w .part) n small;
+    part = part-less u rest a less (w .part) n;
     word = λ A.
         o .word A ∙ some-left (bit (was .word) A) _ (bit (f .word) A) (w .word A) _
-        ∙ ap (λ (s : ℕ). max (bit (was .word) A) (min 1 s)) (sym (one-visited rest a less (w .part) n small (λ s. byLeft g s (concluding (m s) A) (pairCount g))));
-    count = omega (arith, o .count, w .count, one-visited rest a less (w .part) n small (λ s. byLeft g s (matching (m s)) (pairCount g)));
+        ∙ ap (λ (s : ℕ). max (bit (was .word) A) (min 1 s)) (sym (one-visited u rest a less (w .part) n small (λ s. byLeft g s (concluding (m s) A) (pairCount g))));
+    count = omega (arith, o .count, w .count, one-visited u rest a less (w .part) n small (λ s. byLeft g s (matching (m s)) (pairCount g)));
   }
-
-  visited-le : (rest : ℕ) (F : ℕ → ℕ) → visited u rest F ≤ sum 64 (λ s. bit u s * F s)
-  unfolding visited
-  visited-le rest F = sum-mono 64 _ _ (λ s l. mul-le-mul-right (F s) (omega arith))
 
   -- ---- all of them
   module _ (fits : (b : ℕ) → b < pairCount g → pairRule g b .left < 64) where
@@ -106,7 +76,7 @@ module _ (g : Grammar) (u : ℕ) (m : ℕ → ℕ → ℕ) where
         → Visit was f rest → f .count ≤ was .count + pairCount g * c
     unfolding ruleMatches
     visit-few was f rest c few w =
-        omega (arith, w .count, visited-le rest (λ s. byLeft g s (matching (m s)) (pairCount g)), matched, sum-le (pairCount g) c ruleMatches (λ b l. part _ _ c (bit-lt u _) (few b l)))
+        omega (arith, w .count, visited-le u rest (λ s. byLeft g s (matching (m s)) (pairCount g)), matched, sum-le (pairCount g) c ruleMatches (λ b l. part _ _ c (bit-lt u _) (few b l)))
       where
         part : (x y c : ℕ) → x < 2 → y ≤ c → x * y ≤ c
         part zero y c l h = omega arith
@@ -115,7 +85,7 @@ module _ (g : Grammar) (u : ℕ) (m : ℕ → ℕ → ℕ) where
 
     module _ (was f : Fired) (rest : ℕ) (z : rest ≡ 0) (w : Visit was f rest) where
       pub visit-word : (A : ℕ) → bit (f .word) A ≡ max (bit (was .word) A) (min 1 (sum (pairCount g) (ruleConclusions A)))
-      visit-word A = w .word A ∙ ap (λ (s : ℕ). max (bit (was .word) A) (min 1 s)) (ap (λ (r : ℕ). visited u r (λ s. byLeft g s (concluding (m s) A) (pairCount g))) z ∙ all-visited _ ∙ concluded A)
+      visit-word A = w .word A ∙ ap (λ (s : ℕ). max (bit (was .word) A) (min 1 s)) (ap (λ (r : ℕ). visited u r (λ s. byLeft g s (concluding (m s) A) (pairCount g))) z ∙ all-visited u _ ∙ concluded A)
 
       pub visit-count : f .count ≡ was .count + sum (pairCount g) ruleMatches
-      visit-count = w .count ∙ ap (λ (s : ℕ). was .count + s) (ap (λ (r : ℕ). visited u r (λ s. byLeft g s (matching (m s)) (pairCount g))) z ∙ all-visited _ ∙ matched)
+      visit-count = w .count ∙ ap (λ (s : ℕ). was .count + s) (ap (λ (r : ℕ). visited u r (λ s. byLeft g s (matching (m s)) (pairCount g))) z ∙ all-visited u _ ∙ matched)

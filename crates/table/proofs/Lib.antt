@@ -5,3 +5,5 @@ pub mod Walks
 pub mod Cells
 pub mod Adds
 pub mod Tables
+pub mod Marked
+pub mod Sets

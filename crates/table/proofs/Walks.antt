@@ -13,6 +13,10 @@ use Rattle.table.specs.Fill.{splitAdds, InReach}
 use Rattle.table.proofs.Slots.{slot-left, slot-right, slot-fits, words-small}
 
 module _ (t : List ℕ) (N B C i k : ℕ) where
+  pub split-small : (j : ℕ) → splitAdds t N B C i k j ≤ limit
+  unfolding splitAdds
+  split-small j = omega arith
+
   -- before the split j
   pub record Walk (first second step total j : ℕ) : Type 0 where
     pub low : i < j
@@ -49,14 +53,10 @@ module _ (t : List ℕ) (N B C i k : ℕ) where
     step-small : step ≤ 65536 * 64
     step-small = rw (v .stride) (mul-le-mul {n₂ = 65536} {m₂ = 64} (le-trans (v .high) (le-of-lt (r .few))) (r .symbols))
 
-    term-small : (x : ℕ) → i < x → x < j → splitAdds t N B C i k x ≤ limit
-    unfolding splitAdds
-    term-small x a b = omega arith
-
     total-small : total ≤ 65536 * limit
     total-small =
         rw (v .sum)
-        (le-trans (between-le i j limit _ term-small) (mul-le-mul {n₂ = 65536} {m₂ = limit} (let a = v .high in let b = r .few in omega arith) (le-refl limit)))
+        (le-trans (between-le i j limit _ (λ x a b. split-small x)) (mul-le-mul {n₂ = 65536} {m₂ = limit} (let a = v .high in let b = r .few in omega arith) (le-refl limit)))
 
     -- nothing that the loop adds up runs over
     pub record Small : Type 0 where

@@ -3,12 +3,14 @@
 -- Assumes nothing.
 use mathlib.Core.Path.{_≡_}
 use mathlib.Core.List.{List}
-use Prim.Native.Nat.{ℕ, _+_, _*_, _≤_, _<_}
+use Prim.Native.Nat.{ℕ, _+_, _*_, _≤_, _<_, min}
 use lib.ListN.{length, getD}
 use Rattle.bits.specs.Truth.{same}
 use Rattle.bits.specs.Sum.{sum, between}
+use Rattle.bits.specs.Bit.{bit}
 use Rattle.derivation.specs.Grammar.{Grammar, eventRule, pairRule}
 use Rattle.derivation.specs.Derivations.{count}
+use Rattle.marks.specs.Mark.{stands, Told}
 use Rattle.table.specs.Table.{held, slotOf, tableWords}
 
 -- ---- what a rule adds to the words of a cell
@@ -73,3 +75,25 @@ pub record Kept (old new : List ℕ) (m : ℕ) : Type 0 where
 pub record CountsIn (g : Grammar) (w t : List ℕ) : Type 0 where
   pub fits : tableWords (g .symbols) (length w) ≤ length t
   pub at : (A i k : ℕ) → A < g .symbols → i < k → k ≤ length w → Right g w t A i k
+
+-- ---- marks
+-- 1 where A has a derivation over i to k, else 0
+abbrev pub derived : Grammar → List ℕ → (i k A : ℕ) → ℕ
+derived g w i k A = min 1 (count g w A i k)
+
+-- w has those of the first n symbols whose words, from base on, are not 0
+pub record Nonzero (t : List ℕ) (base n w : ℕ) : Type 0 where
+  pub at : (A : ℕ) → A < n → bit w A ≡ min 1 (getD t (base + A) 0)
+
+-- the marks show, for the first N symbols, where the words of the two parts of i to k are not 0: what is added up over the splits at which
+-- both symbols are marked, G j for each, is added up over those at which neither word is 0
+pub record Parts (t : List ℕ) (N : ℕ) (lefts rights : List ℕ) (i k : ℕ) : Type 0 where
+  pub few : k ≤ 96
+  pub symbols : N ≤ 64
+  pub room : 131 ≤ length rights
+  pub told-left : Told lefts
+  pub told-right : Told rights
+  pub inside : (C j : ℕ) → C < N → j < 128 → stands rights 0 C j ≡ 1 → (i < j) × (j < k)
+  pub met : (B C : ℕ) → B < N → C < N → (G : ℕ → ℕ)
+      → sum 128 (λ j. stands lefts i B j * stands rights 0 C j * G j)
+      ≡ between i k (λ j. min 1 (getD t (slotOf N B i j) 0) * min 1 (getD t (slotOf N C j k) 0) * G j)

@@ -23,17 +23,22 @@ pub fn words_needed(symbols: usize, n: usize) -> usize
     symbols * derivation::cell_count(n)
 }
 
-// Fills the table of a record, column after column.
+// How many events are counted without marks.
+const FEW: usize = 16;
+
+// Fills the table of a record, column after column. To clear the marks costs more than they save where the events are few.
 pub fn fill_table(image: &[u8], events: &[u16], table: &mut [u32])
     requires { ⌜ Accepted (now image) ⌝ }
-    requires { ⌜ (length (now events) < 65536) × (tableWords (decode (now image) .symbols) (length (now events)) ≤ length (now table)) ⌝ }
+    requires { ⌜ (length (now events) ≤ 96) × (tableWords (decode (now image) .symbols) (length (now events)) ≤ length (now table)) ⌝ }
     ensures { λ _. ⌜ Filled (decode (now (image .entry))) (now (events .entry)) (now (table .entry)) (now (table .exit)) ⌝ }
 {
-    let mut k = 0;
-    while k < events.len() {
-        k += 1;
-        fill::fill_column(image, events, table, k);
+    if events.len() < FEW {
+        let mut none = [0u64; 1];
+        fill::fill_columns(image, events, table, &mut none);
+        return;
     }
+    let mut lefts = [0u64; 12576];
+    fill::fill_columns(image, events, table, &mut lefts);
 }
 
 // The word for a symbol over i to k.

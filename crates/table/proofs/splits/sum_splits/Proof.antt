@@ -1,137 +1,111 @@
--- The invariant: the words of the two parts stand where the next split has them, and the sum is that of the splits passed.
+-- The splits at which neither word is 0, or all of them.
 -- Assumes nothing.
-use mathlib.Core.Path.{refl, ap, _∙_}
-use Prim.Native.Nat.{_-_}
-use native.Mathlib.Omega.{arith}
+use mathlib.Core.Path.{ap, ap₂, _∙_}
+use Prim.Native.Nat.{_+_}
 use Rattle.table.specs.Table.{held}
-use Rattle.table.proofs.Walks.{Walk, walk-start, first-fits, second-fits, small, walk-step, walk-done}
-use borrow.Author.Needs.{needs, scaled-fits}
+use Rattle.table.proofs.Marked.{halves-add, half-inside}
+use native.Mathlib.Omega.{arith}
+use borrow.Author.Needs.{needs}
 use Rattle.table.proofs.splits.sum_splits.Statement.{statement}
 use Rattle.table.proofs.splits.sum_splits.Tie as tie
+use Rattle.table.proofs.splits.sum_splits.Reads as reads
+use Rattle.table.proofs.splits.sum_splits.Lts as lts
+use Rattle.bits.proofs.ones.Reads as ones-reads
+use Rattle.marks.proofs.common.Reads as common-reads
+use Rattle.table.proofs.numbers.hold.Reads as hold-reads
+use Rattle.table.proofs.splits.sum_all.Reads as sum-all-reads
+use Rattle.table.proofs.splits.sum_set.Reads as sum-set-reads
 
-abbrev Inv-loop : tie.InvT-loop
-Inv-loop table symbols left right i k first₀ second₀ step₀ total₀ j₀ first second step total j =
-    Walk table symbols left right i k first second step total j
+sum-all-requires : tie.Need-sum-all-requires
+sum-all-requires c κs = c .before .before .before .before .pre .0
 
-abbrev μ-loop : tie.MeasureT-loop
-μ-loop table symbols left right i k first₀ second₀ step₀ total₀ j₀ first second step total j = k - j
+returns : tie.Need-returns
+returns c = search needs
 
-add-slot : tie.Need-add-slot Inv-loop μ-loop
-add-slot c = search needs
+common-requires : tie.Need-common-requires
+common-requires c κs =
+    let p = c .before .before .before .before .pre in
+    let q = p .1 (omega (arith, c .if1 .left)) in
+    ((omega (arith, q .few), omega (arith, q .few, c .if1 .left), q .room), (omega (arith, p .0 .0 .left, q .symbols), omega (arith, p .0 .0 .right, q .symbols), omega arith))
 
-slot-requires : tie.Need-slot-requires Inv-loop μ-loop
-slot-requires c κs = search needs
+common-requires-2 : tie.Need-common-requires-2
+common-requires-2 c κs =
+    let p = c .before .before .before .before .before .pre in
+    let q = p .1 (omega (arith, c .before .if1 .left)) in
+    ((omega (arith, q .few), omega (arith, q .few, c .before .if1 .left), q .room), (omega (arith, p .0 .0 .left, q .symbols), omega (arith, p .0 .0 .right, q .symbols), omega arith))
 
-add-slot-2 : tie.Need-add-slot-2 Inv-loop μ-loop
-add-slot-2 c = search needs
+ones-requires : tie.Need-ones-requires
+ones-requires c κs = search needs
 
-slot-requires-2 : tie.Need-slot-requires-2 Inv-loop μ-loop
-slot-requires-2 c κs = search needs
+cast-met : tie.Need-cast-met
+cast-met c = search needs
 
-add-step : tie.Need-add-step Inv-loop μ-loop
-add-step c = search needs
+ones-requires-2 : tie.Need-ones-requires-2
+ones-requires-2 c κs = search needs
 
-mul-step : tie.Need-mul-step Inv-loop μ-loop
-mul-step c = search needs
+cast-met-2 : tie.Need-cast-met-2
+cast-met-2 c = search needs
 
-add-j : tie.Need-add-j Inv-loop μ-loop
-add-j c = search needs
+add-met : tie.Need-add-met
+add-met c = search needs
 
-loop-holds : tie.Need-loop-holds Inv-loop μ-loop
-loop-holds c = walk-start _ _ _ _ _ _ _ _ _ (omega arith) (c .before .slot .ensures) (c .slot2 .ensures) refl
+sub-if2 : tie.Need-sub-if2
+sub-if2 c = search needs
 
-mul-held-product : tie.Need-mul-held-product Inv-loop μ-loop
-mul-held-product c =
-    let s = c .before .before .before .before .before in
-    scaled-fits _ _ 4 (first-fits _ _ _ _ _ _ (s .pre .0) _ _ _ _ _ (c .before .loop .inv)) (s .good .0 .1)
+mul-if2 : tie.Need-mul-if2
+mul-if2 c = search needs
 
-shared-slice-read-held-product : tie.Need-shared-slice-read-held-product Inv-loop μ-loop
-shared-slice-read-held-product c = first-fits _ _ _ _ _ _ (c .before .before .before .before .before .before .pre .0) _ _ _ _ _ (c .before .before .loop .inv)
+sum-all-requires-2 : tie.Need-sum-all-requires-2
+sum-all-requires-2 c κs = c .before .before .before .before .before .before .before .before .before .pre .0
 
-mul-held-product-2 : tie.Need-mul-held-product-2 Inv-loop μ-loop
-mul-held-product-2 c =
-    let s = c .before .before .before .before .before .before in
-    scaled-fits _ _ 4 (second-fits _ _ _ _ _ _ (s .pre .0) _ _ _ _ _ (c .before .before .loop .inv) (c .before .loop-test .taken)) (s .good .0 .1)
+returns-2 : tie.Need-returns-2
+returns-2 c = search needs
 
-shared-slice-read-held-product-2 : tie.Need-shared-slice-read-held-product-2 Inv-loop μ-loop
-shared-slice-read-held-product-2 c =
-    second-fits _ _ _ _ _ _ (c .before .before .before .before .before .before .before .pre .0) _ _ _ _ _ (c .before .before .before .loop .inv)
-    (c .before .before .loop-test .taken)
+sum-set-requires : tie.Need-sum-set-requires
+sum-set-requires c κs =
+    let p = c .before .before .before .before .before .before .before .before .before .pre in
+    let q = p .1 (omega (arith, c .before .before .before .before .before .if1 .left)) in
+    (p .0 .0, omega arith, half-inside _ _ _ _ _ _ q _ _ (p .0 .0 .left) (p .0 .0 .right) 0 _ (omega arith) (c .before .before .before .before .common .ensures))
 
-held-product-requires : tie.Need-held-product-requires Inv-loop μ-loop
-held-product-requires c κs = search needs
+sum-set-requires-2 : tie.Need-sum-set-requires-2
+sum-set-requires-2 c κs =
+    let p = c .before .before .before .before .before .before .before .before .before .before .pre in
+    let q = p .1 (omega (arith, c .before .before .before .before .before .before .if1 .left)) in
+    (p .0 .0, omega arith, half-inside _ _ _ _ _ _ q _ _ (p .0 .0 .left) (p .0 .0 .right) 1 _ (omega arith) (c .before .before .before .before .common2 .ensures))
 
-cast-total : tie.Need-cast-total Inv-loop μ-loop
-cast-total c = search needs
+add-hold : tie.Need-add-hold
+add-hold c = omega (arith, c .before .sum-set .ensures .1, c .sum-set2 .ensures .1)
 
-add-total : tie.Need-add-total Inv-loop μ-loop
-add-total c =
-    let l = c .before .before .before .before in
-    let s = small _ _ _ _ _ _ (l .before .before .before .before .pre .0) _ _ _ _ _ (l .loop .inv) in
-    omega (arith, s .sum)
-
-add-first : tie.Need-add-first Inv-loop μ-loop
-add-first c =
-    let l = c .before .before .before .before in
-    let s = small _ _ _ _ _ _ (l .before .before .before .before .pre .0) _ _ _ _ _ (l .loop .inv) in
-    omega (arith, s .next-first)
-
-add-second : tie.Need-add-second Inv-loop μ-loop
-add-second c =
-    let l = c .before .before .before .before in
-    let s = small _ _ _ _ _ _ (l .before .before .before .before .pre .0) _ _ _ _ _ (l .loop .inv) in
-    omega (arith, s .next-second (c .before .before .before .loop-test .taken))
-
-add-step-2 : tie.Need-add-step-2 Inv-loop μ-loop
-add-step-2 c =
-    let l = c .before .before .before .before in
-    let s = small _ _ _ _ _ _ (l .before .before .before .before .pre .0) _ _ _ _ _ (l .loop .inv) in
-    omega (arith, s .next-step)
-
-add-j-2 : tie.Need-add-j-2 Inv-loop μ-loop
-add-j-2 c = search needs
-
-loop-less : tie.Need-loop-less Inv-loop μ-loop
-loop-less c = search needs
-
-loop-again : tie.Need-loop-again Inv-loop μ-loop
-loop-again c =
-    let l = c .before .before .before .before in
-    walk-step _ _ _ _ _ _ (l .before .before .before .before .pre .0) _ _ _ _ _ (l .loop .inv) _ (c .before .before .before .loop-test .taken)
-    (c .held-product .ensures)
-
-hold-requires : tie.Need-hold-requires Inv-loop μ-loop
+hold-requires : tie.Need-hold-requires
 hold-requires c κs = search needs
 
-returns : tie.Need-returns Inv-loop μ-loop
-returns c = c .hold .ensures ∙ ap held (walk-done _ _ _ _ _ _ _ _ _ _ _ (c .before .before .loop .inv) (c .before .loop-test .left))
+returns-3 : tie.Need-returns-3
+returns-3 c =
+    let p = c .before .before .before .before .before .before .before .before .before .before .before .before .pre in
+    let q = p .1 (omega (arith, c .before .before .before .before .before .before .before .before .if1 .left)) in
+    c .hold .ensures
+    ∙ ap held (ap₂ _+_ (c .before .before .sum-set .ensures .0) (c .before .sum-set2 .ensures .0)
+    ∙ halves-add _ _ _ _ _ _ q _ _ (p .0 .0 .left) (p .0 .0 .right) _ _ (c .before .before .before .before .before .before .before .common .ensures) (c .before .before .before .before .before .before .common2 .ensures))
 
 pub sum-splits-spec : {M : Type 1} → statement M
 sum-splits-spec =
     tie.close
     (tie.spec
-    Inv-loop
-    μ-loop
-    add-slot
-    slot-requires
-    add-slot-2
-    slot-requires-2
-    add-step
-    mul-step
-    add-j
-    loop-holds
-    mul-held-product
-    shared-slice-read-held-product
-    mul-held-product-2
-    shared-slice-read-held-product-2
-    held-product-requires
-    cast-total
-    add-total
-    add-first
-    add-second
-    add-step-2
-    add-j-2
-    loop-less
-    loop-again
+    sum-all-requires
+    returns
+    common-requires
+    common-requires-2
+    ones-requires
+    cast-met
+    ones-requires-2
+    cast-met-2
+    add-met
+    sub-if2
+    mul-if2
+    sum-all-requires-2
+    returns-2
+    sum-set-requires
+    sum-set-requires-2
+    add-hold
     hold-requires
-    returns)
+    returns-3)
