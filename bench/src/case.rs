@@ -1,4 +1,4 @@
-//! A call whose outcome is known, and the comparison of both sides in it.
+//! A call whose outcome is known, and the comparison of all sides in it.
 
 use crate::answers::Refusal;
 use crate::grammars::{flagged, image, stop, stop_and};
@@ -12,7 +12,7 @@ const POISON: u64 = 0xDEAD_BEEF_DEAD_BEEF;
 const SPARE: usize = 8;
 
 /// The memory that a caller lends.
-#[derive(PartialEq)]
+#[derive(Clone, PartialEq)]
 pub struct Lent {
     pub chart: Vec<u64>,
     pub table: Vec<u32>,
@@ -87,22 +87,26 @@ impl<A: From<Refusal>> Case<A> {
     }
 }
 
-/// Both answers are what the case says, and so are the words, which are equal.
-pub fn verify<A, F>(sides: &[F; 2], case: &Case<A>)
+/// A name, and how a service is called on that side. The first side is ours.
+pub type Side<F> = (&'static str, F);
+
+/// Every answer is what the case says, and so are the words, which are equal.
+pub fn verify<A, F>(sides: &[Side<F>], case: &Case<A>)
 where
     A: Debug + PartialEq,
     F: Fn(&Input, &mut Lent) -> A,
 {
-    let name = case.input.title();
-    let [ours, plain] = sides.each_ref().map(|side| {
+    let mut first = None;
+    for (side, call) in sides {
+        let name = format!("{}, {side}", case.input.title());
         let mut lent = Lent::new(case.room);
-        let got = side(&case.input, &mut lent);
+        let got = call(&case.input, &mut lent);
         assert_eq!(got, case.told, "{name}: the answer");
         assert!(lent.written(case.written), "{name}: what was written");
         assert!((case.known)(&lent), "{name}: what the words tell");
-        lent
-    });
-    assert!(ours == plain, "{name}: the words");
+        let first = first.get_or_insert_with(|| lent.clone());
+        assert!(lent == *first, "{name}: the words");
+    }
 }
 
 /// Refusals 1 to 7, 15 and 8, which every service gives: each image or record is at fault in what its number

@@ -31,18 +31,72 @@ pub fn flagged(image: &[u8], flag: u8) -> Vec<u8> {
 
 /// The largest grammar: 64 symbols that each turn into events 0 to 7, and four pair rules for each.
 /// Over events 0 to 7 every cell is full; `left` says how the rules share left symbols.
-pub fn largest(left: fn(u32, u32) -> u32) -> Vec<u8> {
-    let leaves: Vec<_> = (0..512).map(|r| ((r / 8) as u8, r % 8)).collect();
-    let pair = |r: u32| {
+pub fn largest(left: fn(usize, usize) -> usize) -> Vec<u8> {
+    among_first(64, left)
+}
+
+/// The rules of the largest grammar for its first symbols, with parts modulo their number, which
+/// can make rules of a symbol equal. Over events 0 to 7 these symbols stand in every cell, and no
+/// others.
+pub fn among_first(symbols: usize, left: fn(usize, usize) -> usize) -> Vec<u8> {
+    let leaves = (0..8 * symbols).map(|r| ((r / 8) as u8, (r % 8) as u16));
+    let pair = |r: usize| {
         let (s, t) = (r / 4, r % 4);
-        [
-            s as u8,
-            left(s, t) as u8,
-            ((11 * s + 29 * t + 5) % 64) as u8,
-        ]
+        [s, left(s, t) % symbols, (11 * s + 29 * t + 5) % symbols].map(|s| s as u8)
     };
-    let pairs: Vec<_> = (0..256).map(pair).collect();
+    let mut pairs: Vec<_> = (0..4 * symbols).map(pair).collect();
+    pairs.sort();
+    pairs.dedup();
+    with_idle(symbols as u8, &[0], leaves.collect(), pairs)
+}
+
+/// Classes of symbols from 1 on, each a cyclic group: a symbol is made of any two of its class whose
+/// sum it is, and an event of 0 to 7 turns into a drawn symbol of each class. So one symbol of each
+/// class stands in every cell, which one is as good as random, and at a split one rule of each class
+/// fires. The start stands in no cell.
+pub fn cyclic(classes: usize, size: usize, random: &mut Random) -> Vec<u8> {
+    let member = |class: usize, x: usize| (1 + class * size + x % size) as u8;
+    let (mut leaves, mut pairs) = (Vec::new(), Vec::new());
+    for class in 0..classes {
+        leaves.extend((0..8).map(|event| (member(class, random.below(size)), event)));
+        for (a, b) in (0..size * size).map(|r| (r / size, r % size)) {
+            pairs.push([member(class, a + b), member(class, a), member(class, b)]);
+        }
+    }
+    let zeros: Vec<_> = (0..classes).map(|class| member(class, 0)).collect();
+    with_idle(member(classes, 0), &zeros, leaves, pairs)
+}
+
+/// The image with 64 symbols and 256 pair rules. The symbols from `first` on are idle: they turn into
+/// event 8, which no record has. Each rule that is added has one of them for its left symbol and
+/// never fires. By these rules the start reaches the idle symbols and `reached`.
+fn with_idle(
+    first: u8,
+    reached: &[u8],
+    mut leaves: Vec<(u8, u16)>,
+    mut pairs: Vec<[u8; 3]>,
+) -> Vec<u8> {
+    let idle: Vec<u8> = (first..64).collect();
+    leaves.extend(idle.iter().map(|&symbol| (symbol, 8)));
+    let both = idle.iter().cycle().zip(reached.iter().cycle());
+    let enough = idle.len().max(reached.len());
+    pairs.extend(both.take(enough).map(|(&left, &right)| [0, left, right]));
+    let mut random = Random::new(1);
+    fill_up(&mut pairs, || {
+        let left = idle[random.below(idle.len())];
+        [random.below(64) as u8, left, random.below(64) as u8]
+    });
     image(64, &leaves, &pairs)
+}
+
+/// Draws pair rules until there are 256 different ones.
+fn fill_up(pairs: &mut Vec<[u8; 3]>, mut draw: impl FnMut() -> [u8; 3]) {
+    while pairs.len() < 256 {
+        let pair = draw();
+        if !pairs.contains(&pair) {
+            pairs.push(pair);
+        }
+    }
 }
 
 /// 256 pair rules drawn at random, and half of the largest number of event rules. Only half of the
@@ -53,12 +107,9 @@ pub fn any_half(random: &mut Random) -> Vec<u8> {
         leaves.swap_remove(random.below(leaves.len()));
     }
     let mut pairs = Vec::new();
-    while pairs.len() < 256 {
-        let pair = [random.below(32), random.below(64), random.below(64)].map(|s| s as u8);
-        if !pairs.contains(&pair) {
-            pairs.push(pair);
-        }
-    }
+    fill_up(&mut pairs, || {
+        [random.below(32), random.below(64), random.below(64)].map(|s| s as u8)
+    });
     image(64, &leaves, &pairs)
 }
 

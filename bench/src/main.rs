@@ -1,11 +1,16 @@
 //! Compares the proved services with the same services in plain Rust: first the answers and the
 //! words left in the lent memory, then the time of a whole call. The first argument is the number
-//! of rounds; `--only` and a name select one service.
+//! of rounds; `--only` and a name select one service, and `--growth` gives the table that `plot`
+//! draws.
 
 mod alike;
 mod answers;
+mod archive;
+#[cfg(before)]
+mod before;
 mod case;
 mod grammars;
+mod growth;
 mod ours;
 mod plain;
 mod random;
@@ -14,29 +19,35 @@ mod services;
 mod sizes;
 mod timing;
 
+use services::Service;
 use std::process::ExitCode;
 
 /// Does what the arguments ask for, or nothing where they ask for nothing that there is.
 fn run(words: &[&str]) -> Option<()> {
-    let (rounds, only) = match *words {
-        [] => ("15", None),
-        [rounds] => (rounds, None),
-        ["--only", name] => ("15", Some(name)),
-        [rounds, "--only", name] => (rounds, Some(name)),
-        _ => return None,
+    let (rounds, rest) = match words {
+        [first, rest @ ..] if !first.starts_with("--") => (positive(first)?, rest),
+        _ => (15, words),
     };
-    let rounds = positive(rounds)?;
-    let mut chosen = services::ALL.to_vec();
-    chosen.retain(|service| only.is_none_or(|name| name == service.0));
-    if chosen.is_empty() {
-        return None;
+    match *rest {
+        [] => time(&services::ALL, rounds),
+        ["--only", name] => {
+            let service = services::ALL
+                .into_iter()
+                .find(|service| service.0 == name)?;
+            time(&[service], rounds);
+        }
+        ["--growth"] => growth::print(rounds),
+        _ => return None,
     }
+    Some(())
+}
+
+fn time(services: &[Service], rounds: usize) {
     timing::explain(rounds);
-    for (name, run) in chosen {
+    for (name, run) in services {
         println!("\n{name}");
         run(rounds);
     }
-    Some(())
 }
 
 fn positive(word: &str) -> Option<usize> {
@@ -47,7 +58,7 @@ fn main() -> ExitCode {
     let words: Vec<String> = std::env::args().skip(1).collect();
     let words: Vec<&str> = words.iter().map(String::as_str).collect();
     if run(&words).is_none() {
-        eprintln!("arguments: [ROUNDS] [--only judge|count|reading|check]");
+        eprintln!("arguments: [ROUNDS] [--only judge|count|reading|check | --growth]");
         return ExitCode::from(2);
     }
     ExitCode::SUCCESS

@@ -1,6 +1,8 @@
 //! What the services are called with: images, and the events that are read by them.
 
-use crate::grammars::{any_half, chain, flagged, largest, mixed, one_each_round, stop, two_chains};
+use crate::grammars::{
+    among_first, any_half, chain, cyclic, flagged, largest, mixed, one_each_round, stop, two_chains,
+};
 use crate::plain;
 use crate::random::Random;
 use crate::sizes::{cells, script_words};
@@ -62,8 +64,12 @@ impl Input {
     }
 }
 
+fn evenly(s: usize, t: usize) -> usize {
+    7 * s + 13 * t
+}
+
 fn even() -> Vec<u8> {
-    largest(|s, t| (7 * s + 13 * t) % 64)
+    largest(evenly)
 }
 
 fn every(events: usize) -> Vec<u16> {
@@ -73,6 +79,15 @@ fn every(events: usize) -> Vec<u16> {
 /// Every cell is full.
 pub fn full(events: usize) -> Input {
     Input::new("full", even(), &every(events))
+}
+
+/// Every cell holds so many symbols: the first ones, with their share of the rules of `full`.
+pub fn first(symbols: usize, events: usize) -> Input {
+    Input::new(
+        "first symbols",
+        among_first(symbols, evenly),
+        &every(events),
+    )
 }
 
 /// Every cell is full, and all rules share 4 left symbols.
@@ -85,6 +100,22 @@ pub fn nearly_empty(events: usize) -> Input {
     let known = |i| if i % 16 < 2 { 7 } else { 999 };
     let few: Vec<u16> = (0..events).map(known).collect();
     Input::new("nearly empty", even(), &few)
+}
+
+/// Five symbols of 30 stand in every cell, and at every split five rules of 180 fire.
+pub fn five(events: usize) -> Input {
+    one_of_each("five a cell", 5, 6, events)
+}
+
+/// Fifteen symbols of 60 stand in every cell, and at every split fifteen rules of 240 fire.
+pub fn fifteen(events: usize) -> Input {
+    one_of_each("fifteen a cell", 15, 4, events)
+}
+
+fn one_of_each(name: &'static str, classes: usize, size: usize, events: usize) -> Input {
+    let mut random = Random::new(1);
+    let image = cyclic(classes, size, &mut random);
+    Input::new(name, image, &any_events(&mut random, events))
 }
 
 pub fn short() -> Input {

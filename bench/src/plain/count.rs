@@ -4,9 +4,16 @@ use super::{cell, low_first, test, Grammar};
 use crate::answers::{Counted, Refusal};
 use crate::sizes::{cells, LIMIT};
 
-/// Refusals 1 to 8 and 10, or the table and the total.
+/// Fills the table and gives the total.
+type Fill = fn(&Grammar, &[u16], &mut [u32]) -> u32;
+
 pub fn count(image: &[u8], events: &[u16], table: &mut [u32]) -> Counted {
-    match count_or_refuse(image, events, table) {
+    count_by(fill, image, events, table)
+}
+
+/// Refusals 1 to 8 and 10, or the table and the total.
+pub fn count_by(fill: Fill, image: &[u8], events: &[u16], table: &mut [u32]) -> Counted {
+    match count_or_refuse(fill, image, events, table) {
         Ok(total) => Counted {
             refusal: 0.into(),
             total,
@@ -15,7 +22,12 @@ pub fn count(image: &[u8], events: &[u16], table: &mut [u32]) -> Counted {
     }
 }
 
-fn count_or_refuse(image: &[u8], events: &[u16], table: &mut [u32]) -> Result<u32, Refusal> {
+fn count_or_refuse(
+    fill: Fill,
+    image: &[u8],
+    events: &[u16],
+    table: &mut [u32],
+) -> Result<u32, Refusal> {
     let grammar = test(image, events)?;
     test_table(&grammar, events, table)?;
     Ok(fill(&grammar, events, table))
@@ -38,6 +50,11 @@ pub fn fill(grammar: &Grammar, events: &[u16], table: &mut [u32]) -> u32 {
             fill_cell(grammar, table, i, q + 1);
         }
     }
+    total(grammar, events, table)
+}
+
+/// The total, from a table that is filled.
+pub fn total(grammar: &Grammar, events: &[u16], table: &[u32]) -> u32 {
     match events.len() {
         0 => grammar.quiet as u32,
         n => table[cell(0, n) * grammar.symbols],
@@ -45,7 +62,7 @@ pub fn fill(grammar: &Grammar, events: &[u16], table: &mut [u32]) -> u32 {
 }
 
 /// No rule stands twice, so that a symbol turns into an event in one way or in none.
-fn fill_leaf(leaves: &[u8], event: u16, own: &mut [u32]) {
+pub fn fill_leaf(leaves: &[u8], event: u16, own: &mut [u32]) {
     own.fill(0);
     for r in leaves.chunks_exact(3) {
         if low_first(r, 1) == event {

@@ -7,20 +7,32 @@ use crate::sizes::cells;
 /// The pair rules, a column for each part, every symbol as the word of its one bit: of the plain
 /// forms tried on aarch64 (records or columns, numbers of 8, 32 or 64 bits or such words, with and
 /// without a branch) this one gives the fastest loop, which the compiler turns into vector code.
-struct Pairs {
+struct Columns {
     symbol: Vec<u64>,
     left: Vec<u64>,
     right: Vec<u64>,
 }
 
 /// A cell's word and the matches so far.
-struct Fired {
-    word: u64,
-    count: u64,
+pub struct Fired {
+    pub word: u64,
+    pub count: u64,
+}
+
+/// The pair rules, in the form in which they are tried.
+pub trait Pairs {
+    fn new(pairs: &[u8]) -> Self;
+
+    /// Adds what fires over a left and a right cell.
+    fn fire(&self, left: u64, right: u64, fired: &mut Fired);
+}
+
+pub fn judge(image: &[u8], events: &[u16], chart: &mut [u64]) -> Judged {
+    judge_by::<Columns>(image, events, chart)
 }
 
 /// Refusals 1 to 9, or the chart, the verdict, the items and the firings.
-pub fn judge(image: &[u8], events: &[u16], chart: &mut [u64]) -> Judged {
+pub fn judge_by<P: Pairs>(image: &[u8], events: &[u16], chart: &mut [u64]) -> Judged {
     let grammar = match test(image, events) {
         Ok(grammar) => grammar,
         Err(refusal) => return Judged::from(refusal),
@@ -29,7 +41,7 @@ pub fn judge(image: &[u8], events: &[u16], chart: &mut [u64]) -> Judged {
     if chart.len() < cells(n) {
         return Judged::from(Refusal::from(9));
     }
-    let firings = fill(&grammar, events, chart);
+    let firings = fill::<P>(&grammar, events, chart);
     let used = &chart[..cells(n)];
     Judged {
         refusal: 0.into(),
@@ -42,18 +54,9 @@ pub fn judge(image: &[u8], events: &[u16], chart: &mut [u64]) -> Judged {
     }
 }
 
-fn decode(pairs: &[u8]) -> Pairs {
-    let part = |at| pairs.iter().skip(at).step_by(3).map(|&s| 1 << s);
-    Pairs {
-        symbol: part(0).collect(),
-        left: part(1).collect(),
-        right: part(2).collect(),
-    }
-}
-
 /// Fills the chart column by column, each from its last cell down, and counts the firings.
-fn fill(grammar: &Grammar, events: &[u16], chart: &mut [u64]) -> u64 {
-    let pairs = decode(grammar.pairs);
+fn fill<P: Pairs>(grammar: &Grammar, events: &[u16], chart: &mut [u64]) -> u64 {
+    let pairs = P::new(grammar.pairs);
     let mut firings = 0;
     for (q, &event) in events.iter().enumerate() {
         let leaf = fire_leaves(grammar.leaves, event);
@@ -78,20 +81,31 @@ fn fire_leaves(leaves: &[u8], event: u16) -> Fired {
     f
 }
 
-fn fill_cell(pairs: &Pairs, chart: &[u64], i: usize, k: usize) -> Fired {
+fn fill_cell(pairs: &impl Pairs, chart: &[u64], i: usize, k: usize) -> Fired {
     let mut f = Fired { word: 0, count: 0 };
     for j in i + 1..k {
-        fire_pairs(pairs, chart[cell(i, j)], chart[cell(j, k)], &mut f);
+        pairs.fire(chart[cell(i, j)], chart[cell(j, k)], &mut f);
     }
     f
 }
 
-/// All pair rules over two cells. `&` and the product leave no branch, which would keep the
-/// compiler from vector code.
-fn fire_pairs(pairs: &Pairs, left: u64, right: u64, f: &mut Fired) {
-    for ((s, l), r) in pairs.symbol.iter().zip(&pairs.left).zip(&pairs.right) {
-        let h = ((left & l != 0) & (right & r != 0)) as u64;
-        f.word |= h * s;
-        f.count += h;
+impl Pairs for Columns {
+    fn new(pairs: &[u8]) -> Self {
+        let part = |at| pairs.iter().skip(at).step_by(3).map(|&s| 1 << s);
+        Columns {
+            symbol: part(0).collect(),
+            left: part(1).collect(),
+            right: part(2).collect(),
+        }
+    }
+
+    /// Tries all rules. `&` and the product leave no branch, which would keep the compiler from
+    /// vector code.
+    fn fire(&self, left: u64, right: u64, f: &mut Fired) {
+        for ((s, l), r) in self.symbol.iter().zip(&self.left).zip(&self.right) {
+            let h = ((left & l != 0) & (right & r != 0)) as u64;
+            f.word |= h * s;
+            f.count += h;
+        }
     }
 }

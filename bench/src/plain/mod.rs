@@ -1,14 +1,19 @@
 //! The services in plain Rust, written from the rules and not from the proved code: they are both
 //! the measure of speed and a second opinion on the answers. Here is what they share.
 
+mod by_left;
 mod check;
 mod count;
+mod count_skipping;
 mod judge;
+mod judge_skipping;
 mod reading;
 
 pub use check::check;
 pub use count::count;
+pub use count_skipping::count_skipping;
 pub use judge::judge;
+pub use judge_skipping::judge_skipping;
 pub use reading::reading;
 
 use crate::answers::Refusal;

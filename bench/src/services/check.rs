@@ -1,23 +1,24 @@
 //! `check`. The long scripts are those of `reading`; which scripts are right follows from the
 //! rules.
 
-use super::compare_and_time;
 use super::reading::MIDDLE;
+use super::{called, compare_and_time};
 use crate::answers::Checked;
-use crate::case::{at_fault, Case, Lent};
+use crate::case::{at_fault, Case, Lent, Side};
 use crate::records::{self, Input, Words, LENGTHS};
 use crate::{ours, plain};
 
 type Check = fn(&[u8], &[u16], &[u16]) -> Checked;
 
-const SIDES: [Check; 2] = [ours::check, plain::check];
+const SIDES: &[Side<Check>] = &[("ours", ours::check), ("plain", plain::check)];
 
 pub fn run(rounds: usize) {
     let side = |check: Check| {
         move |input: &Input, _: &mut Lent| check(&input.image, &input.events, &input.script)
     };
+    let sides = called(SIDES, side);
     let timed = LENGTHS.into_iter().flat_map(long).collect();
-    compare_and_time(SIDES.map(side), timed, others(), |events| events, rounds);
+    compare_and_time(&sides, timed, others(), |events| events, rounds);
 }
 
 fn long(events: usize) -> [Case<Checked>; 3] {

@@ -2,23 +2,31 @@
 //! rules that hold for every stretch of a length; only what is told of `half` is the plain side's
 //! own answer.
 
-use super::compare_and_time;
+use super::{called, compare_and_time};
 use crate::alike::{cut, trees, CHAIN, FULL};
 use crate::answers::Counted;
-use crate::case::{at_fault, Case, Lent};
+#[cfg(before)]
+use crate::before;
+use crate::case::{at_fault, Case, Lent, Side};
 use crate::records::{self, Input, Words, LENGTHS};
 use crate::sizes::{splits, LIMIT};
 use crate::{ours, plain};
 
 type Count = fn(&[u8], &[u16], &mut [u32]) -> Counted;
 
-const SIDES: [Count; 2] = [ours::count, plain::count];
+const SIDES: &[Side<Count>] = &[
+    ("ours", ours::count),
+    #[cfg(before)]
+    ("before", before::count),
+    ("plain", plain::count),
+    ("skipping", plain::count_skipping),
+];
 
 pub fn run(rounds: usize) {
     let side = |count: Count| {
         move |input: &Input, lent: &mut Lent| count(&input.image, &input.events, &mut lent.table)
     };
-    compare_and_time(SIDES.map(side), timed(), others(), splits, rounds);
+    compare_and_time(&called(SIDES, side), timed(), others(), splits, rounds);
 }
 
 fn timed() -> Vec<Case<Counted>> {
@@ -45,9 +53,17 @@ fn long(events: usize) -> Vec<Case<Counted>> {
         counted(records::full(events), LIMIT, over(events, of_full)),
         counted(half, own.total as u64, sum_of(&table)),
         counted(mixed, three[events], over(events, of_mixed)),
+        one_of_each(records::fifteen(events), 15),
+        one_of_each(records::five(events), 5),
         counted(records::nearly_empty(events), 0, few),
         chain(events, LIMIT),
     ]
+}
+
+/// Over a stretch the one symbol of a class has a derivation for each tree. The start has none.
+fn one_of_each(input: Input, classes: u64) -> Case<Counted> {
+    let sum = over(input.events.len(), |m| classes * cut(trees(m)));
+    counted(input, 0, sum)
 }
 
 /// Other rows of the specification, and refusals.

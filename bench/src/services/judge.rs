@@ -1,23 +1,35 @@
 //! `judge`. What is told was worked out by hand for any number of events, so that two equal wrong
 //! answers are seen too; only what is told of `half` is the plain side's own answer.
 
-use super::compare_and_time;
+use super::{called, compare_and_time};
 use crate::answers::Judged;
-use crate::case::{at_fault, Case, Lent};
+#[cfg(before)]
+use crate::before;
+use crate::case::{at_fault, Case, Lent, Side};
 use crate::records::{self, Input, Words, LENGTHS};
 use crate::sizes::{cells, splits};
 use crate::{ours, plain};
 
 type Judge = fn(&[u8], &[u16], &mut [u64]) -> Judged;
 
-/// Both sides, in the order of every table and message.
-const SIDES: [Judge; 2] = [ours::judge, plain::judge];
+/// In the order of every table.
+const SIDES: &[Side<Judge>] = &[
+    ("ours", ours::judge),
+    #[cfg(before)]
+    ("before", before::judge),
+    ("plain", plain::judge),
+    ("skipping", plain::judge_skipping),
+];
 
 pub fn run(rounds: usize) {
+    compare_and_time(&sides(), timed(), others(), splits, rounds);
+}
+
+pub fn sides() -> Vec<Side<impl Fn(&Input, &mut Lent) -> Judged>> {
     let side = |judge: Judge| {
         move |input: &Input, lent: &mut Lent| judge(&input.image, &input.events, &mut lent.chart)
     };
-    compare_and_time(SIDES.map(side), timed(), others(), splits, rounds);
+    called(SIDES, side)
 }
 
 /// What is told of a record: the verdict, the items and the firings.
@@ -47,16 +59,50 @@ fn long(events: usize) -> Vec<Case<Judged>> {
     let [half, mixed] = records::drawn(events);
     let chart = &mut vec![0; half.needs().chart];
     let own = plain::judge(&half.image, &half.events, chart);
-    // In sixteen events 64 symbols each: two leaves by one rule and a stretch of two by four rules.
-    let sixteens = events as u64 / 16;
-    let few = (false, sixteens * 64 * (2 + 1), sixteens * 64 * (2 + 4));
     vec![
-        judged(records::full(events), even(events, 64, 256)),
+        full(events),
         judged(records::skewed(events), even(events, 64, 256)),
         judged(half, (own.admitted, own.items, own.firings)),
         judged(mixed, even(events, 48, 112)),
-        judged(records::nearly_empty(events), few),
+        fifteen(events),
+        five(events),
+        nearly_empty(events),
     ]
+}
+
+pub fn full(events: usize) -> Case<Judged> {
+    judged(records::full(events), even(events, 64, 256))
+}
+
+/// Rules t and t + d of a symbol are equal where the number of symbols divides 13 d and 29 d, and so d:
+/// a symbol has four rules, or as many as there are symbols.
+pub fn first(symbols: usize, events: usize) -> Case<Judged> {
+    let pairs = symbols * symbols.min(4);
+    judged(
+        records::first(symbols, events),
+        even(events, symbols, pairs),
+    )
+}
+
+pub fn fifteen(events: usize) -> Case<Judged> {
+    one_of_each(records::fifteen(events), 15)
+}
+
+pub fn five(events: usize) -> Case<Judged> {
+    one_of_each(records::five(events), 5)
+}
+
+/// A symbol of each class and never the start.
+fn one_of_each(input: Input, classes: usize) -> Case<Judged> {
+    let (_, items, firings) = even(input.events.len(), classes, classes);
+    judged(input, (false, items, firings))
+}
+
+/// In sixteen events 64 symbols each: two leaves by one rule and a stretch of two by four rules.
+pub fn nearly_empty(events: usize) -> Case<Judged> {
+    let sixteens = events.div_ceil(16) as u64;
+    let few = (false, sixteens * 64 * (2 + 1), sixteens * 64 * (2 + 4));
+    judged(records::nearly_empty(events), few)
 }
 
 /// The ones in the chart are as many as the items.

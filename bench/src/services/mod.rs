@@ -1,4 +1,4 @@
-//! The services: what each is called with, what is known of the outcome, and how both sides are
+//! The services: what each is called with, what is known of the outcome, and how the sides are
 //! compared and timed.
 
 pub mod check;
@@ -6,26 +6,33 @@ pub mod count;
 pub mod judge;
 pub mod reading;
 
-use crate::case::{verify, Case, Lent};
+use crate::case::{verify, Case, Lent, Side};
 use crate::records::Input;
 use crate::timing;
 use std::fmt::Debug;
 
-/// Compares the two sides of a service and then times them in a number of rounds.
-type Run = fn(usize);
+/// A name, and what compares the sides of the service and then times them in a number of rounds.
+pub type Service = (&'static str, fn(usize));
 
-/// Each service by its name.
-pub const ALL: [(&str, Run); 4] = [
+pub const ALL: [Service; 4] = [
     ("judge", judge::run),
     ("count", count::run),
     ("reading", reading::run),
     ("check", check::run),
 ];
 
-/// Compares both sides in all cases, and times them in those that are to be timed. The steps that a
+/// The sides of a service, each called in the way that `call` gives for it.
+fn called<S: Copy, F>(sides: &[Side<S>], call: impl Fn(S) -> F) -> Vec<Side<F>> {
+    sides
+        .iter()
+        .map(|&(name, side)| (name, call(side)))
+        .collect()
+}
+
+/// Compares the sides in all cases, and times them in those that are to be timed. The steps that a
 /// call takes by its number of events are what the growth of its times is set beside.
 fn compare_and_time<A, F>(
-    sides: [F; 2],
+    sides: &[Side<F>],
     timed: Vec<Case<A>>,
     others: Vec<Case<A>>,
     steps: fn(usize) -> usize,
@@ -34,12 +41,17 @@ fn compare_and_time<A, F>(
     A: Debug + PartialEq,
     F: Fn(&Input, &mut Lent) -> A,
 {
-    timed.iter().for_each(|case| verify(&sides, case));
-    others.iter().for_each(|case| verify(&sides, case));
+    timed.iter().for_each(|case| verify(sides, case));
+    others.iter().for_each(|case| verify(sides, case));
     let (timed_count, other_count) = (timed.len(), others.len());
     println!("{timed_count} timed cases and {other_count} others equal in every answer and word");
+    let names: Vec<_> = sides.iter().map(|side| side.0).collect();
     timing::print_head();
-    let measure = |case| timing::measure(&sides, case, rounds);
+    let measure = |case| {
+        let times = timing::measure(sides, case, rounds);
+        timing::print_times(&names, &times);
+        times
+    };
     let times: Vec<_> = timed.iter().map(measure).collect();
-    timing::print_growth(&times, steps);
+    timing::print_growth(&names, &times, steps);
 }

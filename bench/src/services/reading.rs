@@ -1,17 +1,17 @@
 //! `reading`. A script is told word for word, or by its number, which is worked out from the script
 //! with Catalan numbers.
 
-use super::compare_and_time;
+use super::{called, compare_and_time};
 use crate::alike::{Alike, CHAIN, FULL};
 use crate::answers::Refusal;
-use crate::case::{at_fault, Case, Lent};
+use crate::case::{at_fault, Case, Lent, Side};
 use crate::records::{self, Input, Words, LENGTHS};
 use crate::sizes::splits;
 use crate::{ours, plain};
 
 type Reading = fn(&[u8], &[u16], u32, &mut [u32], &mut [u16]) -> Refusal;
 
-const SIDES: [Reading; 2] = [ours::reading, plain::reading];
+const SIDES: &[Side<Reading>] = &[("ours", ours::reading), ("plain", plain::reading)];
 
 pub fn run(rounds: usize) {
     let side = |reading: Reading| {
@@ -19,7 +19,7 @@ pub fn run(rounds: usize) {
             reading(&i.image, &i.events, i.k, &mut lent.table, &mut lent.script)
         }
     };
-    compare_and_time(SIDES.map(side), timed(), others(), splits, rounds);
+    compare_and_time(&called(SIDES, side), timed(), others(), splits, rounds);
 }
 
 /// Half of the greatest number that a total is reported as.
