@@ -155,7 +155,7 @@ fn follow_marks(
 ) -> Fired
     requires { ⌜ Accepted (now image) ⌝ }
     requires { ⌜ Grouped (decode (now image)) (now table) ⌝ }
-    requires { ⌜ (r < 96) × (131 * r + 131 ≤ length (now marks)) × (131 ≤ length (now column)) ⌝ }
+    requires { ⌜ (r < 96) × (131 * r + 131 ≤ length (now marks)) × (131 ≤ length (now column)) × Told (now column) ⌝ }
     requires { ⌜ (a < 64) × (into .count + 32768 < 2 ^ 62) ⌝ }
     ensures { λ f. ⌜ Followed (decode (now (image .entry))) (along (now (marks .entry)) r a (now (column .entry))) a into f ⌝ }
 {
@@ -187,7 +187,7 @@ fn fire_marked_group(
 ) -> Fired
     requires { ⌜ Accepted (now image) ⌝ }
     requires { ⌜ Grouped (decode (now image)) (now table) ⌝ }
-    requires { ⌜ (r < 96) × (131 * r + 131 ≤ length (now marks)) × (131 ≤ length (now column)) × SeenIn (now column) 0 right ⌝ }
+    requires { ⌜ (r < 96) × (131 * r + 131 ≤ length (now marks)) × (131 ≤ length (now column)) × Told (now column) × SeenIn (now column) 0 right ⌝ }
     requires { ⌜ (a < 64) × (into .count + 32768 < 2 ^ 62) ⌝ }
     ensures { λ f. ⌜ Followed (decode (now (image .entry))) (along (now (marks .entry)) r a (now (column .entry))) a into f ⌝ }
 {

@@ -5,7 +5,7 @@ use mathlib.Core.Path.{_≡_, refl, sym, ap, ap₂, _∙_, subst}
 use mathlib.Core.Logic.{_≢_, _⊎_, inl, inr}
 use mathlib.Core.List.{List}
 use Prim.Native.Nat.{ℕ, zero, suc, _+_, _-_, _*_, _/_, _%_, _^_, _≤_, _<_, max, min}
-use native.Mathlib.Nat.{mod-lt, zero-lt-suc, div-add-mod, div-lt-iff-lt-mul, div-eq-of-lt, mod-eq-of-lt, mul-add-div, mul-add-mod-self-left, sub-zero, add-zero, zero-add, max-zero}
+use native.Mathlib.Nat.{mod-lt, zero-lt-suc, div-add-mod, div-lt-iff-lt-mul, div-eq-of-lt, mod-eq-of-lt, mul-add-div, mul-add-mod-self-left, sub-zero, add-zero, zero-add, mul-zero, max-zero}
 use native.Mathlib.Decide.{ℕ-discrete}
 use native.Mathlib.Omega.{arith}
 use lib.Bits.{bitAnd, bitOr}
@@ -31,6 +31,9 @@ rest-lt j = mod-lt j (zero-lt-suc 63)
 pub split-lt : (t : List ℕ) (from j : ℕ) → split t from j < 2
 unfolding split
 split-lt t from j = bit-lt _ _
+
+half-of : (half x : ℕ) → x < 64 → (64 * half + x) / 64 ≡ half
+half-of half x h = mul-add-div (zero-lt-suc 63) half x ∙ ap (λ (y : ℕ). half + y) (div-eq-of-lt h) ∙ add-zero half
 
 same-rest : (j x : ℕ) → j / 64 ≡ x / 64 → same (j % 64) (x % 64) ≡ same j x
 same-rest j x e = elim (ℕ-discrete j x) [
@@ -266,7 +269,7 @@ module _ (t : List ℕ) (r : ℕ) (u : List ℕ) where
   pub common-is : (a c half : ℕ) → CommonIs t r a u c half (bitAnd (getD t (131 * r + 2 * a + half) 0) (getD u (2 * c + half) 0))
   unfolding split
   common-is a c half x h =
-      let e : (64 * half + x) / 64 ≡ half = mul-add-div (zero-lt-suc 63) half x ∙ ap (λ (y : ℕ). half + y) (div-eq-of-lt h) ∙ add-zero half in
+      let e = half-of half x h in
       let f : (64 * half + x) % 64 ≡ x = mul-add-mod-self-left 64 half x ∙ mod-eq-of-lt h in
       rw (e, f, zero-add (2 * c)) (bit-and _ _ x ∙ product _ _ (bit-lt _ x) (bit-lt _ x))
     where
@@ -275,11 +278,35 @@ module _ (t : List ℕ) (r : ℕ) (u : List ℕ) where
       product (suc zero) z l m = omega arith
       product (suc (suc y)) z l m = absurd (omega arith)
 
+  -- the column has no split in that half
+  pub none-common : (a c half : ℕ) → c < 64 → half < 2 → Told u → getD u (128 + half) 0 ≡ 0 → CommonIs t r a u c half 0
+  unfolding split
+  none-common a c half l o told none x h =
+      bit-of-zero x ∙ sym (ap (λ (y : ℕ). stands t r a (64 * half + x) * y) absent ∙ mul-zero _)
+    where
+      place : 131 * 0 + 128 + (64 * half + x) / 64 ≡ 128 + half
+      place = ap (λ (y : ℕ). 128 + y) (half-of half x h)
+
+      absent : stands u 0 c (64 * half + x) ≡ 0
+      absent = elim (ℕ-discrete (stands u 0 c (64 * half + x)) 1) [
+        | yes e ↦ absurd (omega (
+          arith,
+          told .some 0 c (64 * half + x) l (omega arith) e,
+          ap (λ (y : ℕ). bit (getD u y 0) ((64 * half + x) % 64)) place,
+          ap (λ (y : ℕ). bit y ((64 * half + x) % 64)) none,
+          bit-of-zero ((64 * half + x) % 64),
+        ))
+        | no n ↦ omega (arith, split-lt u (131 * 0 + 2 * c) (64 * half + x))
+      ]
+
   pub meeting-is : (a c low high : ℕ) → CommonIs t r a u c 0 low → CommonIs t r a u c 1 high → sum 64 (bit low) + sum 64 (bit high) ≡ meetings t r a u c
   unfolding meetings
   meeting-is a c low high f g =
       ap₂ _+_ (sum-cong 64 _ _ (λ x l. f x l ∙ ap (λ (y : ℕ). stands t r a y * stands u 0 c y) (zero-add x))) (sum-cong 64 _ _ g)
       ∙ sym (sum-split 64 64 (λ j. stands t r a j * stands u 0 c j))
+
+  pub low-meeting-is : (a c low : ℕ) → CommonIs t r a u c 0 low → CommonIs t r a u c 1 0 → sum 64 (bit low) ≡ meetings t r a u c
+  low-meeting-is a c low f g = sym (add-zero _) ∙ ap (λ (y : ℕ). sum 64 (bit low) + y) (sym (sum-zero 64 _ (λ x l. bit-of-zero x))) ∙ meeting-is a c low 0 f g
 
 -- all the symbols of a block
 pub seen-is : (t : List ℕ) (r : ℕ) → Told t → SeenIn t r (getD t (131 * r + 130) 0)

@@ -91,9 +91,12 @@ pub fn apart(marks: &[u64], r: usize, column: &[u64]) -> bool
 // The splits, of those below 64 or of those from 64 on, at which a stands in block r and c in the column.
 pub fn common(marks: &[u64], r: usize, a: usize, column: &[u64], c: usize, half: usize) -> u64
     requires { ⌜ (r < 96) × (131 * r + 131 ≤ length (now marks)) × (131 ≤ length (now column)) ⌝ }
-    requires { ⌜ (a < 64) × (c < 64) × (half < 2) ⌝ }
+    requires { ⌜ (a < 64) × (c < 64) × (half < 2) × Told (now column) ⌝ }
     ensures { λ w. ⌜ CommonIs (now (marks .entry)) r a (now (column .entry)) c half w ⌝ }
 {
+    if column[128 + half] == 0 {
+        return 0;
+    }
     let left = marks[131 * r + 2 * a + half];
     let right = column[2 * c + half];
     left & right
@@ -102,10 +105,13 @@ pub fn common(marks: &[u64], r: usize, a: usize, column: &[u64], c: usize, half:
 // How many they are.
 pub fn meeting(marks: &[u64], r: usize, a: usize, column: &[u64], c: usize) -> u64
     requires { ⌜ (r < 96) × (131 * r + 131 ≤ length (now marks)) × (131 ≤ length (now column)) ⌝ }
-    requires { ⌜ (a < 64) × (c < 64) ⌝ }
+    requires { ⌜ (a < 64) × (c < 64) × Told (now column) ⌝ }
     ensures { λ n. ⌜ (n ≡ meetings (now (marks .entry)) r a (now (column .entry)) c) × (n ≤ 128) ⌝ }
 {
     let low = common(marks, r, a, column, c, 0);
     let high = common(marks, r, a, column, c, 1);
+    if high == 0 {
+        return bits::ones(low) as u64;
+    }
     bits::ones(low) as u64 + bits::ones(high) as u64
 }

@@ -14,6 +14,9 @@ ghost use Rattle.marks.specs.Shown.{InUse, Lefts, Shown};
 ghost use Rattle.table.specs.Table.{held, slotOf, tableWords, Filled};
 ghost use Rattle.table.specs.Fill.{pairAdds, leafAdds, Framed, Zeros, Summed, CellDone, Done, Kept, derived, Parts, Nonzero};
 
+// Neighbouring rules are alike, so that one in so many is asked whether its symbols are crowded.
+const SAMPLE: usize = 8;
+
 fn clear_words(table: &mut [u32], base: usize, n: usize)
     requires { ⌜ base + n ≤ length (now table) ⌝ }
     ensures { λ _. ⌜ Framed (now (table .entry)) (now (table .exit)) base n × Zeros (now (table .exit)) base n ⌝ }
@@ -60,6 +63,18 @@ fn none_meet(lefts: &[u64], rights: &[u64], i: usize) -> bool
     marks::apart(lefts, i, rights)
 }
 
+// Whether two symbols stand at so many splits of i to k that it is quicker not to look for them.
+fn are_crowded(lefts: &[u64], rights: &[u64], left: usize, right: usize, i: usize, k: usize) -> bool
+    requires { ⌜ (left < 64) × (right < 64) × (i < k) ⌝ }
+    requires { ⌜ (InUse (now lefts) → (i < 96) × (131 ≤ length (now rights)) × Told (now lefts) × Told (now rights)) ⌝ }
+{
+    if lefts.len() < marks::LEFTS {
+        return true;
+    }
+    let met = marks::meeting(lefts, i, left, rights, right);
+    k - i < 4 * met as usize
+}
+
 // Adds the pair rules over i to k, two events or more, to the words of its cell, which are 0.
 fn add_pairs(
     image: &[u8],
@@ -84,9 +99,23 @@ fn add_pairs(
     let symbols = layout::symbol_count(image);
     let leaves = layout::leaf_count(image);
     let pairs = layout::pair_count(image);
+    let mut crowded = true;
     for b in 0..pairs {
         let p = lookup::pair_of(image, leaves, b);
-        let more = sum_splits(table, lefts, rights, symbols, p.left, p.right, i, k);
+        if b % SAMPLE == 0 {
+            crowded = are_crowded(lefts, rights, p.left, p.right, i, k);
+        }
+        let more = sum_splits(
+            table,
+            lefts,
+            rights,
+            crowded,
+            symbols,
+            p.left,
+            p.right,
+            i,
+            k,
+        );
         add_word(table, base + p.symbol, more);
     }
 }

@@ -23,22 +23,28 @@ pub fn words_needed(symbols: usize, n: usize) -> usize
     symbols * derivation::cell_count(n)
 }
 
-// How many events are counted without marks.
-const FEW: usize = 16;
+// Whether marks save more than they cost: there are splits and rules enough.
+fn marks_pay(n: usize, pairs: usize) -> bool {
+    if n < 16 {
+        return false;
+    }
+    4 <= pairs
+}
 
-// Fills the table of a record, column after column. To clear the marks costs more than they save where the events are few.
+// Fills the table of a record, column after column, with or without marks.
 pub fn fill_table(image: &[u8], events: &[u16], table: &mut [u32])
     requires { ⌜ Accepted (now image) ⌝ }
     requires { ⌜ (length (now events) ≤ 96) × (tableWords (decode (now image) .symbols) (length (now events)) ≤ length (now table)) ⌝ }
     ensures { λ _. ⌜ Filled (decode (now (image .entry))) (now (events .entry)) (now (table .entry)) (now (table .exit)) ⌝ }
 {
-    if events.len() < FEW {
-        let mut none = [0u64; 1];
-        fill::fill_columns(image, events, table, &mut none);
+    let pairs = layout::pair_count(image);
+    if marks_pay(events.len(), pairs) {
+        let mut lefts = [0u64; 12576];
+        fill::fill_columns(image, events, table, &mut lefts);
         return;
     }
-    let mut lefts = [0u64; 12576];
-    fill::fill_columns(image, events, table, &mut lefts);
+    let mut none = [0u64; 1];
+    fill::fill_columns(image, events, table, &mut none);
 }
 
 // The word for a symbol over i to k.

@@ -62,11 +62,34 @@ fn sum_all(table: &[u32], symbols: usize, left: usize, right: usize, i: usize, k
     hold(total)
 }
 
-// The same, with the splits at which neither word is 0 where they are few: the others add nothing.
+// The same with the splits at which neither word is 0: the others add nothing.
+fn sum_met(
+    table: &[u32],
+    lefts: &[u64],
+    rights: &[u64],
+    symbols: usize,
+    left: usize,
+    right: usize,
+    i: usize,
+    k: usize,
+) -> u32
+    requires { ⌜ InReach (now table) symbols left right i k × (i + 1 < k) × InUse (now lefts) ⌝ }
+    requires { ⌜ Parts (now table) symbols (now lefts) (now rights) i k ⌝ }
+    ensures { λ r. ⌜ r ≡ held (between i k (splitAdds (now (table .entry)) symbols left right i k)) ⌝ }
+{
+    let low = marks::common(lefts, i, left, rights, right, 0);
+    let high = marks::common(lefts, i, left, rights, right, 1);
+    let first = sum_set(table, symbols, left, right, i, k, low, 0);
+    let second = sum_set(table, symbols, left, right, i, k, high, 64);
+    hold(first + second)
+}
+
+// By all splits where there are no marks or most splits are met, else by those that are.
 pub fn sum_splits(
     table: &[u32],
     lefts: &[u64],
     rights: &[u64],
+    crowded: bool,
     symbols: usize,
     left: usize,
     right: usize,
@@ -77,16 +100,11 @@ pub fn sum_splits(
     requires { ⌜ (InUse (now lefts) → Parts (now table) symbols (now lefts) (now rights) i k) ⌝ }
     ensures { λ r. ⌜ r ≡ held (between i k (splitAdds (now (table .entry)) symbols left right i k)) ⌝ }
 {
+    if crowded {
+        return sum_all(table, symbols, left, right, i, k);
+    }
     if lefts.len() < marks::LEFTS {
         return sum_all(table, symbols, left, right, i, k);
     }
-    let low = marks::common(lefts, i, left, rights, right, 0);
-    let high = marks::common(lefts, i, left, rights, right, 1);
-    let met = bits::ones(low) as usize + bits::ones(high) as usize;
-    if k - i < 2 * met {
-        return sum_all(table, symbols, left, right, i, k);
-    }
-    let first = sum_set(table, symbols, left, right, i, k, low, 0);
-    let second = sum_set(table, symbols, left, right, i, k, high, 64);
-    hold(first + second)
+    sum_met(table, lefts, rights, symbols, left, right, i, k)
 }

@@ -25,12 +25,12 @@ element-copy-out-needs c = search needs
 returns : tie.Need-returns
 returns c =
     let p = c .before .before .before .before .before .pre in
-    group-unmet _ _ (p .1 .0) (parts-small _ (p .0 .sound)) _ _ _ _ _ (p .1 .1 .0 .3) (p .1 .1 .1 .0) (c .if1 .taken) _
+    group-unmet _ _ (p .1 .0) (parts-small _ (p .0 .sound)) _ _ _ _ _ (p .1 .1 .0 .4) (p .1 .1 .1 .0) (c .if1 .taken) _
 
 follow-marks-requires : tie.Need-follow-marks-requires
 follow-marks-requires c κs =
     let p = c .before .before .before .before .before .pre in
-    (p .0, (p .1 .0, ((p .1 .1 .0 .0, p .1 .1 .0 .1, p .1 .1 .0 .2), p .1 .1 .1)))
+    (p .0, (p .1 .0, ((p .1 .1 .0 .0, p .1 .1 .0 .1, p .1 .1 .0 .2, p .1 .1 .0 .3), p .1 .1 .1)))
 
 returns-2 : tie.Need-returns-2
 returns-2 c = search needs

@@ -60,7 +60,7 @@ fire-marked-group-requires c κs =
     let s = c .before .before .before .before .before .before .before .before .before .before in
     let p = s .pre in
     let fits = p .1 .1 .0 in
-    (p .0, (p .1 .0, ((fits .0, fits .1, fits .2, c .before .before .before .before .seen .ensures), (c .first-bit .ensures .0, omega (arith, few s _ _ _ _ (c .before .before .loop .inv))))))
+    (p .0, (p .1 .0, ((fits .0, fits .1, fits .2, p .1 .1 .1 .1, c .before .before .before .before .seen .ensures), (c .first-bit .ensures .0, omega (arith, few s _ _ _ _ (c .before .before .loop .inv))))))
 
 without-requires : tie.Need-without-requires Inv-loop μ-loop
 without-requires c κs = search needs

@@ -1,12 +1,24 @@
--- What two words share.
+-- What two words share, which is nothing where the column has no split in that half.
 -- Assumes nothing.
 use native.Mathlib.Omega.{arith}
 use borrow.Author.Needs.{needs}
-use Rattle.marks.proofs.Marks.{common-is}
+use Rattle.marks.proofs.Marks.{common-is, none-common}
 use Rattle.marks.proofs.common.Statement.{statement}
 use Rattle.marks.proofs.common.Tie as tie
 use Rattle.marks.proofs.common.Reads as reads
 use Rattle.marks.proofs.common.Lts as lts
+
+add-if1 : tie.Need-add-if1
+add-if1 c = search needs
+
+mul-if1 : tie.Need-mul-if1
+mul-if1 c = search needs
+
+shared-slice-read-if1 : tie.Need-shared-slice-read-if1
+shared-slice-read-if1 c = search needs
+
+returns : tie.Need-returns
+returns c = let p = c .before .before .pre .1 in none-common _ _ _ _ _ _ (p .1) (p .2) (p .3) (c .if1 .taken)
 
 mul-left : tie.Need-mul-left
 mul-left c = search needs
@@ -38,13 +50,17 @@ mul-right-2 c = search needs
 shared-slice-read-right : tie.Need-shared-slice-read-right
 shared-slice-read-right c = search needs
 
-returns : tie.Need-returns
-returns c = common-is _ _ _ _ _ _
+returns-2 : tie.Need-returns-2
+returns-2 c = common-is _ _ _ _ _ _
 
 pub common-spec : {M : Type 1} → statement M
 common-spec =
     tie.close
     (tie.spec
+    add-if1
+    mul-if1
+    shared-slice-read-if1
+    returns
     mul-left
     mul-left-2
     add-left
@@ -55,4 +71,4 @@ common-spec =
     add-right
     mul-right-2
     shared-slice-read-right
-    returns)
+    returns-2)

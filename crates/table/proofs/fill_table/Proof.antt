@@ -1,19 +1,27 @@
 -- Without marks, or with marks that start empty.
 -- Assumes nothing.
 use Rattle.marks.proofs.Shows.{lefts-start}
-use borrow.Author.Needs.{needs}
 use native.Mathlib.Omega.{arith}
+use borrow.Author.Needs.{needs}
 use Rattle.table.proofs.fill_table.Statement.{statement}
 use Rattle.table.proofs.fill_table.Tie as tie
 use Rattle.table.proofs.fill_table.Reads as reads
 use Rattle.table.proofs.fill_table.Lts as lts
+use Rattle.layout.proofs.pair_count.Reads as pair-count-reads
 use Rattle.table.proofs.fill.fill_columns.Reads as fill-columns-reads
+use Rattle.table.proofs.marks_pay.Reads as marks-pay-reads
+
+pair-count-requires : tie.Need-pair-count-requires
+pair-count-requires c κs = search needs
+
+marks-pay-requires : tie.Need-marks-pay-requires
+marks-pay-requires c κs = search needs
 
 slice-aggregate-fill-columns : tie.Need-slice-aggregate-fill-columns
 slice-aggregate-fill-columns c = search needs
 
 fill-columns-requires : tie.Need-fill-columns-requires
-fill-columns-requires c κs = search needs
+fill-columns-requires c κs = let p = c .before .before .before .before .before .before .before .before .pre in (p .0, ((omega (arith, p .1 .0), p .1 .1), λ there. (p .1 .0, lefts-start _ _ 12576 (p .0 .sound .range .symbols))))
 
 same-length : tie.Need-same-length
 same-length c = search needs
@@ -25,7 +33,7 @@ slice-aggregate-fill-columns-2 : tie.Need-slice-aggregate-fill-columns-2
 slice-aggregate-fill-columns-2 c = search needs
 
 fill-columns-requires-2 : tie.Need-fill-columns-requires-2
-fill-columns-requires-2 c κs = let p = c .before .before .before .before .before .before .pre in (p .0, ((omega (arith, p .1 .0), p .1 .1), λ there. (p .1 .0, lefts-start _ _ 12576 (p .0 .sound .range .symbols))))
+fill-columns-requires-2 c κs = search needs
 
 same-length-2 : tie.Need-same-length-2
 same-length-2 c = search needs
@@ -37,6 +45,8 @@ pub fill-table-spec : {M : Type 1} → statement M
 fill-table-spec =
     tie.close
     (tie.spec
+    pair-count-requires
+    marks-pay-requires
     slice-aggregate-fill-columns
     fill-columns-requires
     same-length

@@ -2,7 +2,7 @@
 -- Assumes nothing.
 use mathlib.Core.Path.{_≡_}
 use Prim.Native.Nat.{_+_, _-_, _≤_}
-use native.Mathlib.Nat.{le-trans, le-refl}
+use native.Mathlib.Nat.{le-trans, le-refl, lt-of-lt-of-le}
 use native.Mathlib.Omega.{arith}
 use lib.ListN.{length}
 use denote.Ref.{now}
@@ -18,11 +18,11 @@ use Rattle.table.proofs.fill.add_pairs.Statement.{statement}
 use Rattle.table.proofs.fill.add_pairs.Tie as tie
 
 abbrev Inv-loop : tie.InvT-loop
-Inv-loop image table₀ lefts rights base i k symbols leaves pairs b₀ table b =
+Inv-loop image table₀ lefts rights base i k symbols leaves pairs crowded₀ b₀ table crowded b =
     (b ≤ pairs) × Summed (pairAdds (decode image) table₀ i k) b base (decode image .symbols) table₀ table
 
 abbrev μ-loop : tie.MeasureT-loop
-μ-loop image table₀ lefts rights base i k symbols leaves pairs b₀ table b = pairs - b
+μ-loop image table₀ lefts rights base i k symbols leaves pairs crowded₀ b₀ table crowded b = pairs - b
 
 -- the words of the cell are in the table
 inside : (c : tie.Start Inv-loop μ-loop) → c .args .base + decode (now (c .args .image)) .symbols ≤ length (now (c .args .table))
@@ -61,12 +61,21 @@ pair-of-requires c κs =
     let v = c .before .loop .inv in
     (c .before .before .before .before .before .before .before .before .before .before .before .pre .0, (c .before .before .before .leaf-count .ensures .0, omega (arith, c .loop-test .taken, c .before .before .pair-count .ensures)))
 
+are-crowded-requires : tie.Need-are-crowded-requires Inv-loop μ-loop
+are-crowded-requires c κs =
+    let p = c .before .before .before .before .before .before .before .before .before .before .before .before .before .pre .1 in
+    let a = c .before .pair-of .ensures in (
+      (lt-of-lt-of-le (a .left-fits) (a .few), lt-of-lt-of-le (a .right-fits) (a .few), omega (arith, p .0 .0)),
+      λ there.
+          let q = p .1 .1 .1 there in (omega (arith, q .few, p .0 .0), q .room, q .told-left, q .told-right),
+    )
+
 sum-splits-requires : tie.Need-sum-splits-requires Inv-loop μ-loop
 sum-splits-requires c κs =
-    let l = c .before .before .before in
+    let l = c .before .before .before .before in
     let p = l .before .before .before .before .before .before .before .before .before .before .pre in
     let n = l .before .before .before .symbol-count .ensures .0 in
-    let a = c .before .pair-of .ensures in
+    let a = c .before .before .pair-of .ensures in
     let v = l .loop .inv .1 in (
       (
         record {
@@ -84,13 +93,13 @@ sum-splits-requires c κs =
 
 add-add-word : tie.Need-add-add-word Inv-loop μ-loop
 add-add-word c =
-    let q = c .before .before .before .before in
+    let q = c .before .before .before .before .before in
     let s = q .before .before .before .before .before .before .before .before .before .before .before .before in
     omega (arith, q .pair-of .ensures .symbol-fits, inside s, s .good .1 .0 .0)
 
 add-word-requires : tie.Need-add-word-requires Inv-loop μ-loop
 add-word-requires c κs =
-    let q = c .before .before .before .before in
+    let q = c .before .before .before .before .before in
     let s = q .before .before .before .before .before .before .before .before .before .before .before .before in
     omega (arith, q .pair-of .ensures .symbol-fits, inside s, q .before .before .loop .inv .1 .frame .long)
 
@@ -102,7 +111,7 @@ loop-less c = search needs
 
 loop-again : tie.Need-loop-again Inv-loop μ-loop
 loop-again c =
-    let q = c .before .before .before .before .before .before .before in
+    let q = c .before .before .before .before .before .before .before .before in
     let l = q .before .before in
     let s = l .before .before .before .before .before .before .before .before .before .before in (
       omega (arith, q .before .loop-test .taken),
@@ -133,6 +142,7 @@ add-pairs-spec =
     pair-count-requires
     loop-holds
     pair-of-requires
+    are-crowded-requires
     sum-splits-requires
     add-add-word
     add-word-requires
