@@ -7,3 +7,4 @@ pub mod Words
 pub mod First
 pub mod Sets
 pub mod Visited
+pub mod Frames

@@ -112,6 +112,10 @@ pub between-none : (i k : ℕ) (f : ℕ → ℕ) → k ≤ i + 1 → between i k
 unfolding between sum
 between-none i k f h = let e : k - (i + 1) ≡ 0 = omega arith in rw e
 
+pub between-zero : (i k : ℕ) → between i k (λ j. 0) ≡ 0
+unfolding between
+between-zero i k = sum-zero (k - (i + 1)) _ (λ x l. refl)
+
 pub between-more : (i k : ℕ) (f : ℕ → ℕ) → i < k → between i (k + 1) f ≡ between i k f + f k
 unfolding between
 between-more i k f h =

@@ -1,3 +1,4 @@
 pub mod Truth
 pub mod Sum
 pub mod Bit
+pub mod Frame

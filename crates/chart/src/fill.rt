@@ -8,6 +8,7 @@ ghost use Rattle.layout.specs.Layout.{decode};
 ghost use Rattle.image.specs.Image.{Accepted};
 ghost use Rattle.groups.specs.Group.{Grouped};
 ghost use Rattle.chart.specs.Fill.{rd, inChart, CellIs, CellFilled, ColumnFilled, Columns};
+ghost use Rattle.bits.specs.Frame.{Framed, Zeros};
 ghost use Rattle.marks.specs.Shown.{InUse, Lefts, Shown};
 
 // How many events are judged without marks.
@@ -85,7 +86,17 @@ fn fill_cell(
     f.count
 }
 
-// Column q: the cells that end at q + 1, from the last down.
+fn clear_cells(chart: &mut [u64], first: usize, n: usize)
+    requires { ⌜ first + n ≤ length (now chart) ⌝ }
+    ensures { λ _. ⌜ Framed (now (chart .entry)) (now (chart .exit)) first n × Zeros (now (chart .exit)) first n ⌝ }
+{
+    for x in 0..n {
+        let at = first + x;
+        chart[at] = 0;
+    }
+}
+
+// Column q: the cells that end at q + 1, from the last down. Where its event makes no symbol, no stretch that ends with it has one.
 fn fill_cells(
     image: &[u8],
     table: &[u64; 768],
@@ -107,6 +118,11 @@ fn fill_cells(
     let at = derivation::cell_at(q, k);
     chart[at] = leaf.word;
     marks::mark_cell(lefts, rights, q, k, leaf.word);
+    if leaf.word == 0 {
+        let first = derivation::cell_at(0, k);
+        clear_cells(chart, first, q);
+        return leaf.count;
+    }
     let mut count = leaf.count;
     for x in 0..q {
         let i = q - 1 - x;

@@ -5,6 +5,7 @@ use mathlib.Core.Logic.{_≢_, _⊎_, inl, inr, ⊎-elim}
 use mathlib.Core.List.{List}
 use Prim.Native.Nat.{ℕ, _+_, _*_, _≤_, _<_, max}
 use native.Mathlib.Nat.{eq-or-lt-of-le, lt-of-lt-of-le}
+use native.Mathlib.Decide.{decLt}
 use native.Mathlib.Omega.{arith}
 use lib.ListN.{length, replicate, length-replicate}
 use Rattle.bits.specs.Truth.{same}
@@ -109,3 +110,33 @@ module _ (m : ℕ) (P Q : ℕ → ℕ → ℕ → ℕ) (i k w : ℕ) (inside : i
       let n : InUse t = omega (arith, c .long) in
       let s = was n in
       (lefts-step t v (s .0) (c .marked n .0), rights-step u x (s .0 .few) (s .0 .symbols) (s .1) (c .marked n .1))
+
+-- ---- a column that is empty before q: nothing needs to be marked
+pub shown-empty : (m : ℕ) (P Q : ℕ → ℕ → ℕ → ℕ) (t u : List ℕ) (q k : ℕ) → q < k → ((x a : ℕ) → x < q → a < m → Q x k a ≡ 0)
+    → ((x j a : ℕ) → x < j → Filled q k x j → a < m → Q x j a ≡ P x j a) → Shown m P t u q k → Shown m Q t u 0 k
+shown-empty m P Q t u q k inside none same-as was there =
+    let s = was there in
+    let rows = s .0 in
+    let cols = s .1 in (
+      record {
+        few = rows .few;
+        symbols = rows .symbols;
+        told = rows .told;
+        left = λ x j a l f h. ⊎-elim
+            (λ (o : j < k). rows .left x j a l (inl o) h ∙ sym (same-as x j a l (inl o) h))
+            (λ (o : (j ≡ k) × (0 ≤ x)). elim (decLt x q) [
+              | yes b ↦ rows .ahead x j a (omega (arith, rows .few)) (omega (arith, rows .few, o .0)) (inr (o .0, b)) h ∙ sym (ap (λ (y : ℕ). Q x y a) (o .0) ∙ none x a b h)
+              | no b ↦ rows .left x j a l (inr (o .0, omega arith)) h ∙ sym (same-as x j a l (inr (o .0, omega arith)) h)
+            ]) f;
+        ahead = λ x j a l h f o. ⊎-elim (λ (b : k < j). rows .ahead x j a l h (inl b) o) (λ (b : (j ≡ k) × (x < 0)). absurd (omega (arith, b .1))) f;
+      },
+      record {
+        room = cols .room;
+        told = cols .told;
+        right = λ j a l h o. elim (decLt j q) [
+          | yes b ↦ cols .outside j a (omega (arith, rows .few)) (inl b) o ∙ sym (none j a b o)
+          | no b ↦ cols .right j a (omega arith) h o ∙ sym (same-as j k a h (inr (refl, omega arith)) o)
+        ];
+        outside = λ j a l f o. ⊎-elim (λ (b : j < 0). absurd (omega arith)) (λ (b : k ≤ j). cols .outside j a l (inr b) o) f;
+      },
+    )

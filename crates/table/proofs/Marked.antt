@@ -12,6 +12,8 @@ use lib.ListN.{length, getD}
 use Rattle.bits.specs.Truth.{same}
 use Rattle.bits.specs.Sum.{sum, between}
 use Rattle.bits.specs.Bit.{bit}
+use Rattle.bits.specs.Frame.{Framed, Zeros}
+use Rattle.bits.proofs.Frames.{framed-none}
 use Rattle.bits.proofs.Sums.{sum-cong, sum-zero, sum-split, sum-upto, between-cong}
 use Rattle.derivation.specs.Grammar.{Grammar, pairCount, pairRule}
 use Rattle.derivation.specs.Derivations.{count}
@@ -20,9 +22,8 @@ use Rattle.marks.specs.Shown.{Lefts, Rights, Shown, CellMarked}
 use Rattle.marks.proofs.Marks.{split-lt}
 use Rattle.marks.proofs.Shows.{met-between, shown-step}
 use Rattle.table.specs.Table.{limit, held, slotOf}
-use Rattle.table.specs.Fill.{splitAdds, pairAdds, Framed, Zeros, Summed, CellDone, Done, derived, Nonzero, Parts}
+use Rattle.table.specs.Fill.{splitAdds, pairAdds, Summed, CellDone, Done, derived, Nonzero, Parts}
 use Rattle.table.proofs.Slots.{slot-before, slot-after, slot-word}
-use Rattle.table.proofs.Cells.{framed-none}
 
 some-held : (x : ℕ) → min 1 (held x) ≡ min 1 x
 some-held x = omega arith

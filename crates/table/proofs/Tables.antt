@@ -15,9 +15,10 @@ use Rattle.derivation.specs.Derivations.{readings}
 use Rattle.derivation.specs.Sound.{Sound}
 use Rattle.derivation.proofs.Readings.{count-events}
 use Rattle.table.specs.Table.{held, slotOf, tableWords, Filled}
-use Rattle.table.specs.Fill.{leafAdds, pairAdds, Framed, Summed, CellDone, Done, Kept, CountsIn}
+use Rattle.table.specs.Fill.{leafAdds, pairAdds, Summed, CellDone, Done, Kept, CountsIn}
 use Rattle.table.proofs.Slots.{slot-word, slot-before, slot-after, slot-of}
-use Rattle.table.proofs.Cells.{framed-on}
+use Rattle.bits.specs.Frame.{Framed}
+use Rattle.bits.proofs.Frames.{framed-on}
 use Rattle.table.proofs.Adds.{leaf-counted, ready-done, all-counted}
 
 -- ---- one cell

@@ -8,6 +8,7 @@ use lib.ListN.{length, getD}
 use Rattle.bits.specs.Truth.{same}
 use Rattle.bits.specs.Sum.{sum, between}
 use Rattle.bits.specs.Bit.{bit}
+use Rattle.bits.specs.Frame.{Framed}
 use Rattle.derivation.specs.Grammar.{Grammar, eventRule, pairRule}
 use Rattle.derivation.specs.Derivations.{count}
 use Rattle.marks.specs.Mark.{stands, Told}
@@ -37,16 +38,6 @@ pub record InReach (t : List ℕ) (N B C i k : ℕ) : Type 0 where
   pub fits : tableWords N k ≤ length t
 
 -- ---- what a function leaves in the table
--- only the n words from base on may have changed
-pub record Framed (old new : List ℕ) (base n : ℕ) : Type 0 where
-  pub long : length new ≡ length old
-  pub before : (x : ℕ) → x < base → getD new x 0 ≡ getD old x 0
-  pub after : (x : ℕ) → base + n ≤ x → getD new x 0 ≡ getD old x 0
-
--- those words are 0
-pub record Zeros (t : List ℕ) (base n : ℕ) : Type 0 where
-  pub at : (x : ℕ) → x < n → getD t (base + x) 0 ≡ 0
-
 -- word A of the n from base on is what the first R rules add, rule r adding F A r
 pub record Summed (F : ℕ → ℕ → ℕ) (R base n : ℕ) (old new : List ℕ) : Type 0 where
   pub frame : Framed old new base n

@@ -9,10 +9,11 @@ ghost use lib.ListN.{length, getD, set};
 ghost use Rattle.derivation.specs.Grammar.{leafCount, pairCount};
 ghost use Rattle.layout.specs.Layout.{decode};
 ghost use Rattle.image.specs.Image.{Accepted};
+ghost use Rattle.bits.specs.Frame.{Framed, Zeros};
 ghost use Rattle.marks.specs.Mark.{Apart, Told};
 ghost use Rattle.marks.specs.Shown.{InUse, Lefts, Shown};
 ghost use Rattle.table.specs.Table.{held, slotOf, tableWords, Filled};
-ghost use Rattle.table.specs.Fill.{pairAdds, leafAdds, Framed, Zeros, Summed, CellDone, Done, Kept, derived, Parts, Nonzero};
+ghost use Rattle.table.specs.Fill.{pairAdds, leafAdds, Summed, CellDone, Done, Kept, derived, Parts, Nonzero};
 
 // Neighbouring rules are alike, so that one in so many is asked whether its symbols are crowded.
 const SAMPLE: usize = 8;

@@ -8,7 +8,7 @@ use Rattle.layout.specs.Layout.{decode}
 use Rattle.chart.specs.Fill.{inChart}
 use Rattle.marks.specs.Shown.{Shown}
 use Rattle.chart.proofs.Fills.{Part, part-start, part-step, part-done}
-use Rattle.chart.proofs.Shows.{shown-stored}
+use Rattle.chart.proofs.Shows.{shown-stored, column-empty, column-shown}
 use borrow.Author.Needs.{needs}
 use native.Mathlib.Omega.{arith}
 use Rattle.chart.proofs.fill.fill_cells.Statement.{statement}
@@ -48,13 +48,41 @@ mark-cell-requires c κs =
     let p = c .before .before .before .before .before .before .before .before .pre in
     (omega arith, λ there. let m = p .1 .1 .1 there in (m .0 .few, m .1 .room))
 
+cell-at-requires-2 : tie.Need-cell-at-requires-2 Inv-loop μ-loop
+cell-at-requires-2 c κs = search needs
+
+clear-cells-requires : tie.Need-clear-cells-requires Inv-loop μ-loop
+clear-cells-requires c κs = rw (length-set, c .before .cell-at2 .ensures) (omega (arith, c .before .before .before .before .before .before .before .before .before .before .before .before .before .before .before .before .before .pre .1 .1 .0 .1))
+
+same-length : tie.Need-same-length Inv-loop μ-loop
+same-length c = search needs
+
+same-length-2 : tie.Need-same-length-2 Inv-loop μ-loop
+same-length-2 c = search needs
+
+same-length-3 : tie.Need-same-length-3 Inv-loop μ-loop
+same-length-3 c = c .before .before .clear-cells .ensures .0 .long ∙ simp length-set
+
+returns : tie.Need-returns Inv-loop μ-loop
+returns c =
+    let s = c .before .before .before .before .before .before .before .before .before .before .before .before .before .before .before .before .before .before .before .before in
+    let at = c .before .before .before .before .before .before .before .before .before .before .before .before .before .before .cell-at .ensures in
+    let f = c .before .before .before .before .before .before .before .before .before .before .before .before .before .before .before .fire-leaves in
+    let z = c .before .before .before .before .before .if1 .taken in
+    let e = rw (c .before .before .before .before .cell-at2 .ensures) at (c .before .before .clear-cells .ensures) in (
+      column-empty (decode (s .args .image .now)) (s .args .event) (s .args .q) _ (s .args .chart .now) _ (f .result) at (omega (arith, at, s .pre .1 .1 .0 .1)) (f .ensures .0) z (e .0) (e .1),
+      omega (arith, f .ensures .1),
+      column-shown (decode (s .args .image .now)) (s .args .event) (s .args .q) _ (s .args .chart .now) _ (f .result) at (omega (arith, at, s .pre .1 .1 .0 .1)) (f .ensures .0) z (e .0) (e .1) _ _
+          (shown-stored (s .args .chart .now) _ _ _ _ _ _ _ _ (omega arith) at (omega arith) (c .before .before .before .before .before .before .before .before .before .before .before .mark-cell .ensures) (s .pre .1 .1 .1)),
+    )
+
 loop-holds : tie.Need-loop-holds Inv-loop μ-loop
 loop-holds c =
-    let s = c .before .before .before .before .before .before .before .before .before .before .before .before .before in
+    let s = c .before .before .before .before .before .before .before .before .before .before .before .before .before .before .before in
     let a = s .args in
-    let at = c .before .before .before .before .before .before .before .cell-at .ensures in
-    let f = c .before .before .before .before .before .before .before .before .fire-leaves in
-    let m = c .before .before .before .before .mark-cell .ensures in (
+    let at = c .before .before .before .before .before .before .before .before .before .cell-at .ensures in
+    let f = c .before .before .before .before .before .before .before .before .before .before .fire-leaves in
+    let m = c .before .before .before .before .before .before .mark-cell .ensures in (
       omega arith,
       omega arith,
       rw (sub-zero (a .q)) (part-start _ _ _ _ (a .chart .now) (f .result) at (omega arith) (f .ensures .0)),
@@ -72,13 +100,13 @@ sub-i-2 c = search needs
 fill-cell-requires : tie.Need-fill-cell-requires Inv-loop μ-loop
 fill-cell-requires c κs =
     let l = c .before .before .before .before .loop in
-    let a = c .before .before .before .before .before .before .before .before .before .before .before .before .before .before .before .before .before .before in
+    let a = c .before .before .before .before .before .before .before .before .before .before .before .before .before .before .before .before .before .before .before .before in
     let h : length (l .chart) ≡ length (a .args .chart .now) = l .inv .2 .long ∙ simp length-set in
     let d : a .args .q - 1 - l .x + 1 ≡ a .args .q - l .x = omega arith in
     (a .pre .0, (a .pre .1 .0, (omega arith, rw d (l .inv .5))))
 
 add-count : tie.Need-add-count Inv-loop μ-loop
-add-count c = omega (arith, c .before .before .before .before .before .before .fill-cell .ensures .1, c .before .before .before .before .before .before .before .before .before .before .before .loop .inv .1, c .before .before .before .before .before .before .before .before .before .before .loop-test .taken, c .before .before .before .before .before .before .before .before .before .before .before .before .before .before .before .before .before .before .before .before .before .before .before .before .before .pre .1 .1 .0 .0)
+add-count c = omega (arith, c .before .before .before .before .before .before .fill-cell .ensures .1, c .before .before .before .before .before .before .before .before .before .before .before .loop .inv .1, c .before .before .before .before .before .before .before .before .before .before .loop-test .taken, c .before .before .before .before .before .before .before .before .before .before .before .before .before .before .before .before .before .before .before .before .before .before .before .before .before .before .before .pre .1 .1 .0 .0)
 
 add-x : tie.Need-add-x Inv-loop μ-loop
 add-x c = search needs
@@ -90,7 +118,7 @@ loop-again : tie.Need-loop-again Inv-loop μ-loop
 loop-again c =
     let f = c .before .before .before .before .before .before .fill-cell in
     let l = c .before .before .before .before .before .before .before .before .before .before .before .loop in
-    let q = c .before .before .before .before .before .before .before .before .before .before .before .before .before .before .before .before .before .before .before .before .before .before .before .before .before .args .q in
+    let q = c .before .before .before .before .before .before .before .before .before .before .before .before .before .before .before .before .before .before .before .before .before .before .before .before .before .before .before .args .q in
     let d : q - (l .x + 1) ≡ q - 1 - l .x = omega arith in (
       omega arith,
       omega arith,
@@ -100,20 +128,20 @@ loop-again c =
       rw d (f .ensures .2),
     )
 
-same-length : tie.Need-same-length Inv-loop μ-loop
-same-length c = search needs
+same-length-4 : tie.Need-same-length-4 Inv-loop μ-loop
+same-length-4 c = search needs
 
-same-length-2 : tie.Need-same-length-2 Inv-loop μ-loop
-same-length-2 c = search needs
+same-length-5 : tie.Need-same-length-5 Inv-loop μ-loop
+same-length-5 c = search needs
 
-same-length-3 : tie.Need-same-length-3 Inv-loop μ-loop
-same-length-3 c = c .before .loop .inv .2 .long ∙ simp length-set
+same-length-6 : tie.Need-same-length-6 Inv-loop μ-loop
+same-length-6 c = c .before .loop .inv .2 .long ∙ simp length-set
 
-returns : tie.Need-returns Inv-loop μ-loop
-returns c =
-    let q = c .before .before .before .before .before .before .before .before .before .before .before .before .before .before .before .args .q in
+returns-2 : tie.Need-returns-2 Inv-loop μ-loop
+returns-2 c =
+    let q = c .before .before .before .before .before .before .before .before .before .before .before .before .before .before .before .before .before .args .q in
     let z : q - c .before .loop .x ≡ 0 = omega arith in
-    (part-done _ _ _ _ _ _ _ _ (c .before .before .before .before .before .before .before .before .before .cell-at .ensures) (rw z at (c .before .loop .inv .2)), omega arith, rw z at (c .before .loop .inv .5))
+    (part-done _ _ _ _ _ _ _ _ (c .before .before .before .before .before .before .before .before .before .before .before .cell-at .ensures) (rw z at (c .before .loop .inv .2)), omega arith, rw z at (c .before .loop .inv .5))
 
 pub fill-cells-spec : {M : Type 1} → statement M
 fill-cells-spec =
@@ -127,6 +155,12 @@ fill-cells-spec =
     mul-chart
     slice-write-chart
     mark-cell-requires
+    cell-at-requires-2
+    clear-cells-requires
+    same-length
+    same-length-2
+    same-length-3
+    returns
     loop-holds
     sub-i
     sub-i-2
@@ -135,7 +169,7 @@ fill-cells-spec =
     add-x
     loop-less
     loop-again
-    same-length
-    same-length-2
-    same-length-3
-    returns)
+    same-length-4
+    same-length-5
+    same-length-6
+    returns-2)

@@ -4,8 +4,8 @@ use Prim.Native.Nat.{_-_, _≤_}
 use native.Mathlib.Omega.{arith}
 use lib.ListN.{length}
 use denote.Ref.{now}
-use Rattle.table.specs.Fill.{Framed, Zeros}
-use Rattle.table.proofs.Cells.{framed-none, framed-set, zeros-none, zeros-more}
+use Rattle.bits.specs.Frame.{Framed, Zeros}
+use Rattle.bits.proofs.Frames.{framed-none, framed-set, zeros-none, zeros-more}
 use borrow.Author.Needs.{scaled-fits, needs}
 use Rattle.table.proofs.fill.clear_words.Statement.{statement}
 use Rattle.table.proofs.fill.clear_words.Tie as tie

@@ -1,0 +1,34 @@
+-- Words in a row, stored one by one: the others stay, and those that were made 0 are 0.
+-- Assumes nothing.
+use mathlib.Core.Path.{_≡_, refl, _∙_}
+use mathlib.Core.List.{List}
+use Prim.Native.Nat.{ℕ, _+_, _<_}
+use native.Mathlib.Decide.{ℕ-discrete}
+use native.Mathlib.Omega.{arith}
+use lib.ListN.{length, getD, set, length-set}
+use lib.Seq.{getD-set-same, getD-set-other}
+use Rattle.bits.specs.Frame.{Framed, Zeros}
+
+pub framed-none : (l : List ℕ) (b n : ℕ) → Framed l l b n
+framed-none l b n = record { long = refl; before = λ x h. refl; after = λ x h. refl }
+
+pub framed-set : (old l : List ℕ) (b n A v : ℕ) → Framed old l b n → A < n → Framed old (set l (b + A) v) b n
+framed-set old l b n A v f h = record {
+  long = length-set l (b + A) v ∙ f .long;
+  before = λ x p. getD-set-other l (b + A) x v 0 (λ e. omega arith) ∙ f .before x p;
+  after = λ x p. getD-set-other l (b + A) x v 0 (λ e. omega arith) ∙ f .after x p;
+}
+
+pub framed-on : (a b c : List ℕ) (base n : ℕ) → Framed a b base n → Framed b c base n → Framed a c base n
+framed-on a b c base n f h = record { long = h .long ∙ f .long; before = λ x p. h .before x p ∙ f .before x p; after = λ x p. h .after x p ∙ f .after x p }
+
+pub zeros-none : (l : List ℕ) (b : ℕ) → Zeros l b 0
+zeros-none l b = record { at = λ x h. absurd (omega arith) }
+
+pub zeros-more : (l : List ℕ) (b n : ℕ) → Zeros l b n → b + n < length l → Zeros (set l (b + n) 0) b (n + 1)
+zeros-more l b n z h = record {
+  at = λ x p. elim (ℕ-discrete x n) [
+    | yes e ↦ rw e (getD-set-same l (b + n) 0 0 h)
+    | no d ↦ getD-set-other l (b + n) (b + x) 0 0 (λ e. d (omega arith)) ∙ z .at x (omega arith)
+  ];
+}
