@@ -3,12 +3,14 @@ use kernel::Fired;
 ghost use mathlib.Core.Path.{_≡_};
 ghost use Prim.Native.Nat.{_+_, _≤_, _<_, _^_};
 ghost use lib.ListN.{length};
+ghost use Rattle.derivation.specs.Grammar.{leafCount};
 ghost use Rattle.derivation.specs.Chart.{column, cellAt, cells};
 ghost use Rattle.layout.specs.Layout.{decode};
 ghost use Rattle.image.specs.Image.{Accepted};
 ghost use Rattle.groups.specs.Group.{Grouped};
 ghost use Rattle.chart.specs.Fill.{rd, inChart, CellIs, CellFilled, ColumnFilled, Columns};
 ghost use Rattle.bits.specs.Frame.{Framed, Zeros};
+ghost use Rattle.kernel.specs.Fire.{Heard};
 ghost use Rattle.marks.specs.Shown.{InUse, Lefts, Shown};
 
 // How many events are judged without marks.
@@ -100,6 +102,7 @@ fn clear_cells(chart: &mut [u64], first: usize, n: usize)
 fn fill_cells(
     image: &[u8],
     table: &[u64; 768],
+    heard: &[u64],
     lefts: &mut [u64],
     rights: &mut [u64],
     event: usize,
@@ -110,11 +113,12 @@ fn fill_cells(
     requires { ⌜ Grouped (decode (now image)) (now table) ⌝ }
     requires { ⌜ (q + 1 < 65536) × (cellAt q (q + 1) < length (now chart)) ⌝ }
     requires { ⌜ Shown 64 (inChart (now chart)) (now lefts) (now rights) (q + 1) (q + 1) ⌝ }
+    requires { ⌜ (16 ≤ length (now heard) → Heard (decode (now image)) (now heard) (leafCount (decode (now image)))) ⌝ }
     ensures { λ n. ⌜ ColumnFilled (decode (now (image .entry))) event (now (chart .entry)) (now (chart .exit)) q n × (n ≤ 2 ^ 41)
         × Shown 64 (inChart (now (chart .exit))) (now (lefts .exit)) (now (rights .exit)) 0 (q + 1) ⌝ }
 {
     let k = q + 1;
-    let leaf = kernel::fire_leaves(image, event);
+    let leaf = kernel::fire_event(image, heard, event);
     let at = derivation::cell_at(q, k);
     chart[at] = leaf.word;
     marks::mark_cell(lefts, rights, q, k, leaf.word);
@@ -135,6 +139,7 @@ fn fill_cells(
 fn fill_column(
     image: &[u8],
     table: &[u64; 768],
+    heard: &[u64],
     lefts: &mut [u64],
     event: usize,
     chart: &mut [u64],
@@ -143,21 +148,23 @@ fn fill_column(
     requires { ⌜ Accepted (now image) ⌝ }
     requires { ⌜ Grouped (decode (now image)) (now table) ⌝ }
     requires { ⌜ (q + 1 < 65536) × (cellAt q (q + 1) < length (now chart)) × (InUse (now lefts) → Lefts 64 (inChart (now chart)) (now lefts) (q + 1) (q + 1)) ⌝ }
+    requires { ⌜ (16 ≤ length (now heard) → Heard (decode (now image)) (now heard) (leafCount (decode (now image)))) ⌝ }
     ensures { λ n. ⌜ ColumnFilled (decode (now (image .entry))) event (now (chart .entry)) (now (chart .exit)) q n × (n ≤ 2 ^ 41)
         × (InUse (now (lefts .exit)) → Lefts 64 (inChart (now (chart .exit))) (now (lefts .exit)) 0 (q + 1)) ⌝ }
 {
     if lefts.len() < marks::LEFTS {
         let mut none = [0u64; 1];
-        return fill_cells(image, table, lefts, &mut none, event, chart, q);
+        return fill_cells(image, table, heard, lefts, &mut none, event, chart, q);
     }
     let mut rights = [0u64; 131];
-    fill_cells(image, table, lefts, &mut rights, event, chart, q)
+    fill_cells(image, table, heard, lefts, &mut rights, event, chart, q)
 }
 
 // All columns of a record.
 fn fill_columns(
     image: &[u8],
     table: &[u64; 768],
+    heard: &[u64],
     lefts: &mut [u64],
     events: &[u16],
     chart: &mut [u64],
@@ -166,17 +173,18 @@ fn fill_columns(
     requires { ⌜ Grouped (decode (now image)) (now table) ⌝ }
     requires { ⌜ (length (now events) < 65536) × (cells (length (now events)) ≤ length (now chart)) ⌝ }
     requires { ⌜ (InUse (now lefts) → (length (now events) ≤ 96) × Lefts 64 (inChart (now chart)) (now lefts) 1 1) ⌝ }
+    requires { ⌜ (16 ≤ length (now heard) → Heard (decode (now image)) (now heard) (leafCount (decode (now image)))) ⌝ }
     ensures { λ n. ⌜ Columns (decode (now (image .entry))) (now (events .entry)) (now (chart .entry)) (now (chart .exit)) (length (now (events .entry))) n ⌝ }
 {
     let mut count: u64 = 0;
     for q in 0..events.len() {
         let event = events[q] as usize;
-        count += fill_column(image, table, lefts, event, chart, q);
+        count += fill_column(image, table, heard, lefts, event, chart, q);
     }
     count
 }
 
-// The whole chart of a record; answers its firings. To clear the marks costs more than they save where the events are few.
+// The whole chart of a record; answers its firings. To make the marks and the set of events costs more than they save where the record is short.
 pub fn fill_chart(image: &[u8], events: &[u16], chart: &mut [u64]) -> u64
     requires { ⌜ Accepted (now image) ⌝ }
     requires { ⌜ (length (now events) ≤ 96) × (cells (length (now events)) ≤ length (now chart)) ⌝ }
@@ -185,8 +193,10 @@ pub fn fill_chart(image: &[u8], events: &[u16], chart: &mut [u64]) -> u64
     let table = groups::group_rules(image);
     if events.len() < FEW {
         let mut none = [0u64; 1];
-        return fill_columns(image, &table, &mut none, events, chart);
+        let unheard = [0u64; 1];
+        return fill_columns(image, &table, &unheard, &mut none, events, chart);
     }
+    let heard = kernel::events_of(image);
     let mut lefts = [0u64; 12576];
-    fill_columns(image, &table, &mut lefts, events, chart)
+    fill_columns(image, &table, &heard, &mut lefts, events, chart)
 }

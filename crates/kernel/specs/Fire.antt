@@ -3,7 +3,8 @@
 -- Assumes nothing.
 use mathlib.Core.Path.{_≡_}
 use mathlib.Core.List.{List}
-use Prim.Native.Nat.{ℕ, _+_, _*_, min, max}
+use Prim.Native.Nat.{ℕ, _+_, _*_, _/_, _%_, _<_, min, max}
+use lib.ListN.{getD}
 use Rattle.bits.specs.Truth.{same}
 use Rattle.bits.specs.Sum.{sum}
 use Rattle.bits.specs.Bit.{bit}
@@ -49,3 +50,12 @@ pub record Met (g : Grammar) (t : List ℕ) (r : ℕ) (u : List ℕ) (f : Fired)
 pub record LeafFired (g : Grammar) (e : ℕ) (f : Fired) : Type 0 where
   pub word : (A : ℕ) → bit (f .word) A ≡ min 1 (leafConclusions g e A)
   pub count : f .count ≡ eventFirings g e
+
+-- ---- which events there are rules for, by their last ten bits
+-- 1 where e, or an event that ends like it, is in the set, else 0
+unfoldable pub hears : List ℕ → ℕ → ℕ
+hears t e = bit (getD t (e % 1024 / 64) 0) (e % 64)
+
+-- the events of the first n event rules are in the set
+pub record Heard (g : Grammar) (t : List ℕ) (n : ℕ) : Type 0 where
+  pub at : (r : ℕ) → r < n → hears t (eventRule g r .event) ≡ 1

@@ -7,7 +7,7 @@ ghost use Rattle.bits.specs.Bit.{meet};
 ghost use Rattle.derivation.specs.Grammar.{leafCount, eventRule};
 ghost use Rattle.layout.specs.Layout.{decode};
 ghost use Rattle.image.specs.Image.{Accepted};
-ghost use Rattle.kernel.specs.Fire.{Noted, Concluded, Met, LeafFired};
+ghost use Rattle.kernel.specs.Fire.{Noted, Concluded, Met, LeafFired, Heard};
 ghost use Rattle.groups.specs.Group.{Grouped};
 ghost use Rattle.marks.specs.Mark.{Told, SeenIn};
 ghost use Rattle.kernel.specs.Follow.{Followed, over, along};
@@ -54,7 +54,7 @@ fn leaf_symbol(image: &[u8], r: usize) -> u64
 }
 
 // The event rules over one event.
-pub fn fire_leaves(image: &[u8], event: usize) -> Fired
+fn fire_leaves(image: &[u8], event: usize) -> Fired
     requires { ⌜ Accepted (now image) ⌝ }
     ensures { λ f. ⌜ LeafFired (decode (now (image .entry))) event f × (f .count ≤ 512) ⌝ }
 {
@@ -66,6 +66,37 @@ pub fn fire_leaves(image: &[u8], event: usize) -> Fired
         f = note(h, symbol, f);
     }
     f
+}
+
+// The events that there are rules for.
+pub fn events_of(image: &[u8]) -> [u64; 16]
+    requires { ⌜ Accepted (now image) ⌝ }
+    ensures { λ t. ⌜ Heard (decode (now (image .entry))) t (leafCount (decode (now (image .entry)))) ⌝ }
+{
+    let leaves = layout::leaf_count(image);
+    let mut heard = [0u64; 16];
+    for r in 0..leaves {
+        let event = layout::event_of(image, r);
+        let at = event % 1024 / 64;
+        let more = bits::put_bit(heard[at], event % 64, 1);
+        heard[at] = more;
+    }
+    heard
+}
+
+// The event rules over one event. Where it is known which events there are rules for, those for others are not looked for.
+pub fn fire_event(image: &[u8], heard: &[u64], event: usize) -> Fired
+    requires { ⌜ Accepted (now image) ⌝ }
+    requires { ⌜ (16 ≤ length (now heard) → Heard (decode (now image)) (now heard) (leafCount (decode (now image)))) ⌝ }
+    ensures { λ f. ⌜ LeafFired (decode (now (image .entry))) event f × (f .count ≤ 512) ⌝ }
+{
+    if heard.len() < 16 {
+        return fire_leaves(image, event);
+    }
+    if bits::bit_of(heard[event % 1024 / 64], event % 64) == 0 {
+        return Fired { word: 0, count: 0 };
+    }
+    fire_leaves(image, event)
 }
 
 // ---- pair rules over two words

@@ -18,21 +18,21 @@ use Rattle.chart.proofs.fill.fill_cells.Lts as lts
 use Rattle.chart.proofs.fill.fill_cell.Reads as fill-cell-reads
 use Rattle.marks.proofs.mark_cell.Reads as mark-cell-reads
 use Rattle.derivation.proofs.cell_at.Reads as cell-at-reads
-use Rattle.kernel.proofs.fire_leaves.Reads as fire-leaves-reads
+use Rattle.kernel.proofs.fire_event.Reads as fire-event-reads
 
 abbrev Inv-loop : tie.InvT-loop
-Inv-loop image table lefts₀ rights₀ event chart₀ q k at count₀ x₀ lefts rights chart count x =
+Inv-loop image table heard lefts₀ rights₀ event chart₀ q k at count₀ x₀ lefts rights chart count x =
     (x ≤ q) × (count ≤ 512 + 16777216 * x) × Part (decode image) event chart₀ chart q (q - x) count
     × (length lefts ≡ length lefts₀) × (length rights ≡ length rights₀) × Shown 64 (inChart chart) lefts rights (q - x) (q + 1)
 
 abbrev μ-loop : tie.MeasureT-loop
-μ-loop image table lefts₀ rights₀ event chart₀ q k at count₀ x₀ lefts rights chart count x = q - x
+μ-loop image table heard lefts₀ rights₀ event chart₀ q k at count₀ x₀ lefts rights chart count x = q - x
 
 add-k : tie.Need-add-k Inv-loop μ-loop
 add-k c = search needs
 
-fire-leaves-requires : tie.Need-fire-leaves-requires Inv-loop μ-loop
-fire-leaves-requires c κs = search needs
+fire-event-requires : tie.Need-fire-event-requires Inv-loop μ-loop
+fire-event-requires c κs = search needs
 
 cell-at-requires : tie.Need-cell-at-requires Inv-loop μ-loop
 cell-at-requires c κs = search needs
@@ -45,14 +45,14 @@ slice-write-chart c = search needs
 
 mark-cell-requires : tie.Need-mark-cell-requires Inv-loop μ-loop
 mark-cell-requires c κs =
-    let p = c .before .before .before .before .before .before .before .before .pre in
-    (omega arith, λ there. let m = p .1 .1 .1 there in (m .0 .few, m .1 .room))
+    let p = c .before .before .before .before .before .before .before .before .before .pre in
+    (omega arith, λ there. let m = p .1 .1 .1 .0 there in (m .0 .few, m .1 .room))
 
 cell-at-requires-2 : tie.Need-cell-at-requires-2 Inv-loop μ-loop
 cell-at-requires-2 c κs = search needs
 
 clear-cells-requires : tie.Need-clear-cells-requires Inv-loop μ-loop
-clear-cells-requires c κs = rw (length-set, c .before .cell-at2 .ensures) (omega (arith, c .before .before .before .before .before .before .before .before .before .before .before .before .before .before .before .before .before .pre .1 .1 .0 .1))
+clear-cells-requires c κs = rw (length-set, c .before .cell-at2 .ensures) (omega (arith, c .before .before .before .before .before .before .before .before .before .before .before .before .before .before .before .before .before .before .pre .1 .1 .0 .1))
 
 same-length : tie.Need-same-length Inv-loop μ-loop
 same-length c = search needs
@@ -65,30 +65,30 @@ same-length-3 c = c .before .before .clear-cells .ensures .0 .long ∙ simp leng
 
 returns : tie.Need-returns Inv-loop μ-loop
 returns c =
-    let s = c .before .before .before .before .before .before .before .before .before .before .before .before .before .before .before .before .before .before .before .before in
+    let s = c .before .before .before .before .before .before .before .before .before .before .before .before .before .before .before .before .before .before .before .before .before in
     let at = c .before .before .before .before .before .before .before .before .before .before .before .before .before .before .cell-at .ensures in
-    let f = c .before .before .before .before .before .before .before .before .before .before .before .before .before .before .before .fire-leaves in
+    let f = c .before .before .before .before .before .before .before .before .before .before .before .before .before .before .before .fire-event in
     let z = c .before .before .before .before .before .if1 .taken in
     let e = rw (c .before .before .before .before .cell-at2 .ensures) at (c .before .before .clear-cells .ensures) in (
       column-empty (decode (s .args .image .now)) (s .args .event) (s .args .q) _ (s .args .chart .now) _ (f .result) at (omega (arith, at, s .pre .1 .1 .0 .1)) (f .ensures .0) z (e .0) (e .1),
       omega (arith, f .ensures .1),
       column-shown (decode (s .args .image .now)) (s .args .event) (s .args .q) _ (s .args .chart .now) _ (f .result) at (omega (arith, at, s .pre .1 .1 .0 .1)) (f .ensures .0) z (e .0) (e .1) _ _
-          (shown-stored (s .args .chart .now) _ _ _ _ _ _ _ _ (omega arith) at (omega arith) (c .before .before .before .before .before .before .before .before .before .before .before .mark-cell .ensures) (s .pre .1 .1 .1)),
+          (shown-stored (s .args .chart .now) _ _ _ _ _ _ _ _ (omega arith) at (omega arith) (c .before .before .before .before .before .before .before .before .before .before .before .mark-cell .ensures) (s .pre .1 .1 .1 .0)),
     )
 
 loop-holds : tie.Need-loop-holds Inv-loop μ-loop
 loop-holds c =
-    let s = c .before .before .before .before .before .before .before .before .before .before .before .before .before .before .before in
+    let s = c .before .before .before .before .before .before .before .before .before .before .before .before .before .before .before .before in
     let a = s .args in
     let at = c .before .before .before .before .before .before .before .before .before .cell-at .ensures in
-    let f = c .before .before .before .before .before .before .before .before .before .before .fire-leaves in
+    let f = c .before .before .before .before .before .before .before .before .before .before .fire-event in
     let m = c .before .before .before .before .before .before .mark-cell .ensures in (
       omega arith,
       omega arith,
       rw (sub-zero (a .q)) (part-start _ _ _ _ (a .chart .now) (f .result) at (omega arith) (f .ensures .0)),
       refl,
       refl,
-      rw (sub-zero (a .q)) (shown-stored (a .chart .now) _ _ _ _ _ _ _ _ (omega arith) at (omega arith) m (s .pre .1 .1 .1)),
+      rw (sub-zero (a .q)) (shown-stored (a .chart .now) _ _ _ _ _ _ _ _ (omega arith) at (omega arith) m (s .pre .1 .1 .1 .0)),
     )
 
 sub-i : tie.Need-sub-i Inv-loop μ-loop
@@ -100,13 +100,13 @@ sub-i-2 c = search needs
 fill-cell-requires : tie.Need-fill-cell-requires Inv-loop μ-loop
 fill-cell-requires c κs =
     let l = c .before .before .before .before .loop in
-    let a = c .before .before .before .before .before .before .before .before .before .before .before .before .before .before .before .before .before .before .before .before in
+    let a = c .before .before .before .before .before .before .before .before .before .before .before .before .before .before .before .before .before .before .before .before .before in
     let h : length (l .chart) ≡ length (a .args .chart .now) = l .inv .2 .long ∙ simp length-set in
     let d : a .args .q - 1 - l .x + 1 ≡ a .args .q - l .x = omega arith in
     (a .pre .0, (a .pre .1 .0, (omega arith, rw d (l .inv .5))))
 
 add-count : tie.Need-add-count Inv-loop μ-loop
-add-count c = omega (arith, c .before .before .before .before .before .before .fill-cell .ensures .1, c .before .before .before .before .before .before .before .before .before .before .before .loop .inv .1, c .before .before .before .before .before .before .before .before .before .before .loop-test .taken, c .before .before .before .before .before .before .before .before .before .before .before .before .before .before .before .before .before .before .before .before .before .before .before .before .before .before .before .pre .1 .1 .0 .0)
+add-count c = omega (arith, c .before .before .before .before .before .before .fill-cell .ensures .1, c .before .before .before .before .before .before .before .before .before .before .before .loop .inv .1, c .before .before .before .before .before .before .before .before .before .before .loop-test .taken, c .before .before .before .before .before .before .before .before .before .before .before .before .before .before .before .before .before .before .before .before .before .before .before .before .before .before .before .before .pre .1 .1 .0 .0)
 
 add-x : tie.Need-add-x Inv-loop μ-loop
 add-x c = search needs
@@ -118,7 +118,7 @@ loop-again : tie.Need-loop-again Inv-loop μ-loop
 loop-again c =
     let f = c .before .before .before .before .before .before .fill-cell in
     let l = c .before .before .before .before .before .before .before .before .before .before .before .loop in
-    let q = c .before .before .before .before .before .before .before .before .before .before .before .before .before .before .before .before .before .before .before .before .before .before .before .before .before .before .before .args .q in
+    let q = c .before .before .before .before .before .before .before .before .before .before .before .before .before .before .before .before .before .before .before .before .before .before .before .before .before .before .before .before .args .q in
     let d : q - (l .x + 1) ≡ q - 1 - l .x = omega arith in (
       omega arith,
       omega arith,
@@ -139,7 +139,7 @@ same-length-6 c = c .before .loop .inv .2 .long ∙ simp length-set
 
 returns-2 : tie.Need-returns-2 Inv-loop μ-loop
 returns-2 c =
-    let q = c .before .before .before .before .before .before .before .before .before .before .before .before .before .before .before .before .before .args .q in
+    let q = c .before .before .before .before .before .before .before .before .before .before .before .before .before .before .before .before .before .before .args .q in
     let z : q - c .before .loop .x ≡ 0 = omega arith in
     (part-done _ _ _ _ _ _ _ _ (c .before .before .before .before .before .before .before .before .before .before .before .cell-at .ensures) (rw z at (c .before .loop .inv .2)), omega arith, rw z at (c .before .loop .inv .5))
 
@@ -150,7 +150,7 @@ fill-cells-spec =
     Inv-loop
     μ-loop
     add-k
-    fire-leaves-requires
+    fire-event-requires
     cell-at-requires
     mul-chart
     slice-write-chart

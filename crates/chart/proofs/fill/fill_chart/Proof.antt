@@ -9,6 +9,7 @@ use Rattle.chart.proofs.fill.fill_chart.Reads as reads
 use Rattle.chart.proofs.fill.fill_chart.Lts as lts
 use Rattle.chart.proofs.fill.fill_columns.Reads as fill-columns-reads
 use Rattle.groups.proofs.group_rules.Reads as group-rules-reads
+use Rattle.kernel.proofs.events_of.Reads as events-of-reads
 
 group-rules-requires : tie.Need-group-rules-requires
 group-rules-requires c κs = search needs
@@ -16,10 +17,13 @@ group-rules-requires c κs = search needs
 slice-aggregate-fill-columns : tie.Need-slice-aggregate-fill-columns
 slice-aggregate-fill-columns c = search needs
 
+slice-aggregate-fill-columns-2 : tie.Need-slice-aggregate-fill-columns-2
+slice-aggregate-fill-columns-2 c = search needs
+
 fill-columns-requires : tie.Need-fill-columns-requires
 fill-columns-requires c κs =
-    let p = c .before .before .before .before .before .before .before .before .pre in
-    (p .0, (c .before .before .before .before .group-rules .ensures, ((omega arith, p .1 .1), λ there. absurd (omega (arith, there)))))
+    let p = c .before .before .before .before .before .before .before .before .before .pre in
+    (p .0, (c .before .before .before .before .before .group-rules .ensures, ((omega arith, p .1 .1), (λ there. absurd (omega (arith, there)), λ there. absurd (omega (arith, there))))))
 
 same-length : tie.Need-same-length
 same-length c = search needs
@@ -27,13 +31,19 @@ same-length c = search needs
 returns : tie.Need-returns
 returns c = search needs
 
-slice-aggregate-fill-columns-2 : tie.Need-slice-aggregate-fill-columns-2
-slice-aggregate-fill-columns-2 c = search needs
+events-of-requires : tie.Need-events-of-requires
+events-of-requires c κs = search needs
+
+slice-aggregate-fill-columns-3 : tie.Need-slice-aggregate-fill-columns-3
+slice-aggregate-fill-columns-3 c = search needs
+
+slice-aggregate-fill-columns-4 : tie.Need-slice-aggregate-fill-columns-4
+slice-aggregate-fill-columns-4 c = search needs
 
 fill-columns-requires-2 : tie.Need-fill-columns-requires-2
 fill-columns-requires-2 c κs =
-    let p = c .before .before .before .before .before .before .before .before .pre in
-    (p .0, (c .before .before .before .before .group-rules .ensures, ((omega arith, p .1 .1), λ there. (p .1 .0, lefts-start _ _ 12576 (omega arith)))))
+    let p = c .before .before .before .before .before .before .before .before .before .before .pre in
+    (p .0, (c .before .before .before .before .before .before .group-rules .ensures, ((omega arith, p .1 .1), (λ there. (p .1 .0, lefts-start _ _ 12576 (omega arith)), λ there. c .before .before .before .before .events-of .ensures))))
 
 same-length-2 : tie.Need-same-length-2
 same-length-2 c = search needs
@@ -47,10 +57,13 @@ fill-chart-spec =
     (tie.spec
     group-rules-requires
     slice-aggregate-fill-columns
+    slice-aggregate-fill-columns-2
     fill-columns-requires
     same-length
     returns
-    slice-aggregate-fill-columns-2
+    events-of-requires
+    slice-aggregate-fill-columns-3
+    slice-aggregate-fill-columns-4
     fill-columns-requires-2
     same-length-2
     returns-2)

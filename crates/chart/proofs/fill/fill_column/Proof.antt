@@ -14,8 +14,9 @@ slice-aggregate-fill-cells c = search needs
 
 fill-cells-requires : tie.Need-fill-cells-requires
 fill-cells-requires c κs =
-    let p = c .before .before .before .before .before .before .before .pre in
-    (p .0, (p .1 .0, ((p .1 .1 .0, p .1 .1 .1), λ there. absurd (omega (arith, c .before .before .before .if1 .taken)))))
+    let p = c .before .before .before .before .before .before .before .before .pre in
+    let q = p .1 .1 .0 in
+    (p .0, (p .1 .0, ((q .0, q .1), (λ there. absurd (omega (arith, c .before .before .before .if1 .taken)), p .1 .1 .1))))
 
 same-length : tie.Need-same-length
 same-length c = search needs
@@ -31,8 +32,9 @@ slice-aggregate-fill-cells-2 c = search needs
 
 fill-cells-requires-2 : tie.Need-fill-cells-requires-2
 fill-cells-requires-2 c κs =
-    let p = c .before .before .before .before .before .before .before .pre in
-    (p .0, (p .1 .0, ((p .1 .1 .0, p .1 .1 .1), λ there. (p .1 .1 .2 there, rights-start _ _ _))))
+    let p = c .before .before .before .before .before .before .before .before .pre in
+    let q = p .1 .1 .0 in
+    (p .0, (p .1 .0, ((q .0, q .1), (λ there. (q .2 there, rights-start _ _ _), p .1 .1 .1))))
 
 same-length-3 : tie.Need-same-length-3
 same-length-3 c = search needs
