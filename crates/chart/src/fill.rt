@@ -13,10 +13,6 @@ ghost use Rattle.bits.specs.Frame.{Framed, Zeros};
 ghost use Rattle.kernel.specs.Fire.{Heard};
 ghost use Rattle.marks.specs.Shown.{InUse, Lefts, Shown};
 
-// How many events are judged without marks.
-
-const FEW: usize = 16;
-
 // The word of cell (i, k).
 pub fn read_cell(chart: &[u64], i: usize, k: usize) -> u64
     requires { ⌜ (i < k) × (k < 65536) × (cellAt i k < length (now chart)) ⌝ }
@@ -156,7 +152,7 @@ fn fill_column(
         let mut none = [0u64; 1];
         return fill_cells(image, table, heard, lefts, &mut none, event, chart, q);
     }
-    let mut rights = [0u64; 131];
+    let mut rights = [0u64; marks::BLOCK];
     fill_cells(image, table, heard, lefts, &mut rights, event, chart, q)
 }
 
@@ -184,19 +180,19 @@ fn fill_columns(
     count
 }
 
-// The whole chart of a record; answers its firings. To make the marks and the set of events costs more than they save where the record is short.
+// The whole chart of a record; answers its firings.
 pub fn fill_chart(image: &[u8], events: &[u16], chart: &mut [u64]) -> u64
     requires { ⌜ Accepted (now image) ⌝ }
-    requires { ⌜ (length (now events) ≤ 96) × (cells (length (now events)) ≤ length (now chart)) ⌝ }
+    requires { ⌜ (length (now events) < 65536) × (cells (length (now events)) ≤ length (now chart)) ⌝ }
     ensures { λ n. ⌜ Columns (decode (now (image .entry))) (now (events .entry)) (now (chart .entry)) (now (chart .exit)) (length (now (events .entry))) n ⌝ }
 {
     let table = groups::group_rules(image);
-    if events.len() < FEW {
-        let mut none = [0u64; 1];
-        let unheard = [0u64; 1];
-        return fill_columns(image, &table, &unheard, &mut none, events, chart);
+    if marks::pay(events.len()) {
+        let heard = kernel::events_of(image);
+        let mut lefts = [0u64; marks::LEFTS];
+        return fill_columns(image, &table, &heard, &mut lefts, events, chart);
     }
-    let heard = kernel::events_of(image);
-    let mut lefts = [0u64; 12576];
-    fill_columns(image, &table, &heard, &mut lefts, events, chart)
+    let unheard = [0u64; 1];
+    let mut none = [0u64; 1];
+    fill_columns(image, &table, &unheard, &mut none, events, chart)
 }

@@ -8,7 +8,6 @@ use native.Mathlib.Decide.{ℕ-discrete}
 use native.Mathlib.Omega.{arith}
 use lib.Pow.{pow-pos}
 use Rattle.bits.specs.Truth.{same}
-use Rattle.bits.specs.Sum.{sum}
 use Rattle.bits.specs.Bit.{bit}
 use Rattle.bits.proofs.Truths.{same-other}
 use Rattle.bits.proofs.Sums.{sum-cong, sum-zero, sum-le, sum-at, product-le}

@@ -1,7 +1,7 @@
 -- The pair rules over the words u and v of two cells: a visit to all symbols of u adds what the rules conclude, and where v is empty nothing.
 -- Assumes nothing.
 use mathlib.Core.Path.{_≡_, refl, sym, ap, ap₂, _∙_}
-use Prim.Native.Nat.{ℕ, _+_, _*_, _^_, _≤_, _<_, max, min}
+use Prim.Native.Nat.{ℕ, _+_, _*_, _≤_, _<_, max, min}
 use native.Mathlib.Nat.{mul-assoc, mul-zero, add-zero, max-zero, le-of-suc-le-suc}
 use native.Mathlib.Omega.{arith}
 use Rattle.bits.specs.Truth.{same}

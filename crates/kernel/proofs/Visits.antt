@@ -3,12 +3,12 @@
 -- Assumes nothing.
 use mathlib.Core.Path.{_≡_, sym, ap, _∙_}
 use Prim.Native.Nat.{ℕ, zero, suc, _+_, _-_, _*_, _^_, _≤_, _<_, max, min}
-use native.Mathlib.Nat.{add-zero, max-zero, sub-zero, mul-le-mul-right}
+use native.Mathlib.Nat.{add-zero, max-zero}
 use native.Mathlib.Omega.{arith}
 use Rattle.bits.specs.Truth.{same}
 use Rattle.bits.specs.Sum.{sum}
 use Rattle.bits.specs.Bit.{bit, Without}
-use Rattle.bits.proofs.Sums.{sum-cong, sum-zero, sum-swap, sum-scale, sum-add, sum-mono, sum-le, sum-at, some-left}
+use Rattle.bits.proofs.Sums.{sum-cong, sum-swap, sum-scale, sum-le, sum-at, some-left}
 use Rattle.bits.proofs.Bits.{bit-lt}
 use Rattle.bits.proofs.Visited.{visited, none-visited, all-visited, part-less, one-visited, visited-le}
 use Rattle.derivation.specs.Grammar.{Grammar, pairCount, pairRule}

@@ -7,13 +7,13 @@ use Prim.Native.Nat.{ℕ, _+_, _*_, _≤_, _<_, max}
 use native.Mathlib.Nat.{eq-or-lt-of-le, lt-of-lt-of-le}
 use native.Mathlib.Decide.{decLt}
 use native.Mathlib.Omega.{arith}
-use lib.ListN.{length, replicate, length-replicate}
+use lib.ListN.{replicate, length-replicate}
 use Rattle.bits.specs.Truth.{same}
 use Rattle.bits.specs.Sum.{sum, between}
 use Rattle.bits.specs.Bit.{bit}
 use Rattle.bits.proofs.Truths.{same-refl, same-other}
 use Rattle.bits.proofs.Sums.{sum-between, between-cong}
-use Rattle.marks.specs.Mark.{stands, meetings, Marked}
+use Rattle.marks.specs.Mark.{stands, Marked}
 use Rattle.marks.specs.Shown.{InUse, Filled, Lefts, Rights, Shown, CellMarked}
 use Rattle.marks.proofs.Marks.{unmarked, told-none}
 

@@ -7,8 +7,20 @@ ghost use lib.ListN.{length, getD, set};
 ghost use Rattle.marks.specs.Mark.{meetings, Apart, SeenIn, CommonIs, Told, Entered, Marked};
 ghost use Rattle.marks.specs.Shown.{InUse, CellMarked};
 
-// The words of a block for each of 96 starts.
-pub const LEFTS: usize = 12576;
+// The words of a block, and those of the blocks of 96 starts.
+pub const BLOCK: usize = 131;
+
+pub const LEFTS: usize = 96 * BLOCK;
+
+// Whether marks save more than it costs to make them: the record is neither short nor longer than they reach.
+pub fn pay(n: usize) -> bool
+    ensures { λ ok. ⌜ (ok ≡ true → n ≤ 96) ⌝ }
+{
+    if n < 16 {
+        return false;
+    }
+    n <= 96
+}
 
 // The bits of more in word `at` too.
 fn join(marks: &mut [u64], at: usize, more: u64)

@@ -2,13 +2,13 @@
 -- words is 0 adds nothing.
 -- Assumes nothing.
 use mathlib.Core.Path.{_≡_, refl, sym, ap, ap₂, _∙_}
-use mathlib.Core.Logic.{_⊎_, inl, inr}
+use mathlib.Core.Logic.{inl, inr}
 use mathlib.Core.List.{List}
 use Prim.Native.Nat.{ℕ, zero, suc, _+_, _-_, _*_, _≤_, _<_, min}
-use native.Mathlib.Nat.{zero-mul, one-mul, mul-zero, zero-add}
-use native.Mathlib.Decide.{ℕ-discrete, decLt, decLe}
+use native.Mathlib.Nat.{zero-mul, mul-zero, zero-add}
+use native.Mathlib.Decide.{decLt, decLe}
 use native.Mathlib.Omega.{arith}
-use lib.ListN.{length, getD}
+use lib.ListN.{getD}
 use Rattle.bits.specs.Truth.{same}
 use Rattle.bits.specs.Sum.{sum, between}
 use Rattle.bits.specs.Bit.{bit}
@@ -21,8 +21,8 @@ use Rattle.marks.specs.Mark.{stands, meetings, Apart, CommonIs}
 use Rattle.marks.specs.Shown.{Lefts, Rights, Shown, CellMarked}
 use Rattle.marks.proofs.Marks.{split-lt}
 use Rattle.marks.proofs.Shows.{met-between, shown-step}
-use Rattle.table.specs.Table.{limit, held, slotOf}
-use Rattle.table.specs.Fill.{splitAdds, pairAdds, Summed, CellDone, Done, derived, Nonzero, Parts}
+use Rattle.table.specs.Table.{held, slotOf}
+use Rattle.table.specs.Fill.{splitAdds, pairAdds, Summed, Done, derived, Nonzero, Parts}
 use Rattle.table.proofs.Slots.{slot-before, slot-after, slot-word}
 
 some-held : (x : ℕ) → min 1 (held x) ≡ min 1 x

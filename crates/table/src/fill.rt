@@ -234,7 +234,7 @@ fn fill_column(image: &[u8], events: &[u16], table: &mut [u32], lefts: &mut [u64
         fill_cells(image, events, table, lefts, &mut none, k);
         return;
     }
-    let mut rights = [0u64; 131];
+    let mut rights = [0u64; marks::BLOCK];
     fill_cells(image, events, table, lefts, &mut rights, k);
 }
 

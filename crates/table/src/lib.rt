@@ -4,6 +4,7 @@ mod splits; // the words of a table, and what they say of a stretch in two parts
 mod fill; // cells and columns
 
 ghost use mathlib.Core.Path.{_≡_};
+ghost use mathlib.Core.Bool.{true};
 ghost use Prim.Native.Nat.{_≤_, _<_};
 ghost use lib.ListN.{length, getD};
 ghost use Rattle.derivation.specs.Derivations.{readings};
@@ -23,23 +24,25 @@ pub fn words_needed(symbols: usize, n: usize) -> usize
     symbols * derivation::cell_count(n)
 }
 
-// Whether marks save more than they cost: there are splits and rules enough.
-fn marks_pay(n: usize, pairs: usize) -> bool {
-    if n < 16 {
+// Whether marks save more than they cost: with few rules there is little to skip.
+fn marks_pay(n: usize, pairs: usize) -> bool
+    ensures { λ ok. ⌜ (ok ≡ true → n ≤ 96) ⌝ }
+{
+    if pairs < 4 {
         return false;
     }
-    4 <= pairs
+    marks::pay(n)
 }
 
 // Fills the table of a record, column after column, with or without marks.
 pub fn fill_table(image: &[u8], events: &[u16], table: &mut [u32])
     requires { ⌜ Accepted (now image) ⌝ }
-    requires { ⌜ (length (now events) ≤ 96) × (tableWords (decode (now image) .symbols) (length (now events)) ≤ length (now table)) ⌝ }
+    requires { ⌜ (length (now events) < 65536) × (tableWords (decode (now image) .symbols) (length (now events)) ≤ length (now table)) ⌝ }
     ensures { λ _. ⌜ Filled (decode (now (image .entry))) (now (events .entry)) (now (table .entry)) (now (table .exit)) ⌝ }
 {
     let pairs = layout::pair_count(image);
     if marks_pay(events.len(), pairs) {
-        let mut lefts = [0u64; 12576];
+        let mut lefts = [0u64; marks::LEFTS];
         fill::fill_columns(image, events, table, &mut lefts);
         return;
     }

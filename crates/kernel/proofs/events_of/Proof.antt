@@ -11,11 +11,6 @@ use borrow.Author.Needs.{needs}
 use native.Mathlib.Omega.{arith}
 use Rattle.kernel.proofs.events_of.Statement.{statement}
 use Rattle.kernel.proofs.events_of.Tie as tie
-use Rattle.kernel.proofs.events_of.Reads as reads
-use Rattle.kernel.proofs.events_of.Lts as lts
-use Rattle.bits.proofs.put_bit.Reads as put-bit-reads
-use Rattle.layout.proofs.event_of.Reads as event-of-reads
-use Rattle.layout.proofs.leaf_count.Reads as leaf-count-reads
 
 abbrev Inv-loop : tie.InvT-loop
 Inv-loop image leaves heard₀ r₀ heard r = (r ≤ leaves) × (leaves ≡ leafCount (decode image)) × (length heard ≡ 16) × Heard (decode image) heard r

@@ -6,10 +6,6 @@ use native.Mathlib.Omega.{arith}
 use borrow.Author.Needs.{needs}
 use Rattle.kernel.proofs.fire_event.Statement.{statement}
 use Rattle.kernel.proofs.fire_event.Tie as tie
-use Rattle.kernel.proofs.fire_event.Reads as reads
-use Rattle.kernel.proofs.fire_event.Lts as lts
-use Rattle.bits.proofs.bit_of.Reads as bit-of-reads
-use Rattle.kernel.proofs.fire_leaves.Reads as fire-leaves-reads
 
 fire-leaves-requires : tie.Need-fire-leaves-requires
 fire-leaves-requires c κs = search needs

@@ -2,13 +2,9 @@
 -- Assumes nothing.
 use Rattle.groups.proofs.Read.{parts-small}
 use Rattle.kernel.proofs.Along.{group-unmet}
-use native.Mathlib.Omega.{arith}
 use borrow.Author.Needs.{needs}
 use Rattle.kernel.proofs.fire_marked_group.Statement.{statement}
 use Rattle.kernel.proofs.fire_marked_group.Tie as tie
-use Rattle.kernel.proofs.fire_marked_group.Reads as reads
-use Rattle.kernel.proofs.fire_marked_group.Lts as lts
-use Rattle.kernel.proofs.follow_marks.Reads as follow-marks-reads
 
 mul-needs : tie.Need-mul-needs
 mul-needs c = search needs

@@ -1,8 +1,7 @@
 -- The invariant: all symbols that are seen in the block but those of `rest` are visited.
 -- Assumes nothing.
-use mathlib.Core.Path.{_≡_, refl}
-use Prim.Native.Nat.{ℕ, _+_, _<_, _≤_}
-use Rattle.derivation.specs.Grammar.{pairCount, pairRule}
+use mathlib.Core.Path.{refl}
+use Prim.Native.Nat.{ℕ, _+_, _≤_}
 use Rattle.layout.specs.Layout.{decode}
 use Rattle.groups.proofs.Read.{parts-small}
 use Rattle.kernel.specs.declared.Fired.{Fired}
@@ -13,13 +12,6 @@ use borrow.Author.Needs.{needs}
 use native.Mathlib.Omega.{arith}
 use Rattle.kernel.proofs.fire_marks.Statement.{statement}
 use Rattle.kernel.proofs.fire_marks.Tie as tie
-use Rattle.kernel.proofs.fire_marks.Reads as reads
-use Rattle.kernel.proofs.fire_marks.Lts as lts
-use Rattle.bits.proofs.first_bit.Reads as first-bit-reads
-use Rattle.bits.proofs.without.Reads as without-reads
-use Rattle.kernel.proofs.fire_marked_group.Reads as fire-marked-group-reads
-use Rattle.marks.proofs.apart.Reads as apart-reads
-use Rattle.marks.proofs.seen.Reads as seen-reads
 
 abbrev Inv-loop : tie.InvT-loop
 Inv-loop image table marks r column f₀ right rest₀ f rest = Visit (decode image) rest₀ (λ (a : ℕ). along marks r a column) f₀ f rest

@@ -1,10 +1,10 @@
 -- The invariant: the places of the group before x are walked.
 -- Assumes nothing.
-use mathlib.Core.Path.{_≡_, sym, ap, _∙_, subst, subst₂}
-use Prim.Native.Nat.{ℕ, _+_, _-_, _≤_, _<_}
+use mathlib.Core.Path.{_≡_, _∙_, subst₂}
+use Prim.Native.Nat.{ℕ, _+_, _-_, _≤_}
 use Rattle.derivation.specs.Grammar.{pairCount}
 use Rattle.layout.specs.Layout.{decode}
-use Rattle.groups.specs.Group.{lefts, startOf, groupFrom, placeRight}
+use Rattle.groups.specs.Group.{lefts, groupFrom}
 use Rattle.groups.proofs.Read.{parts-small}
 use Rattle.groups.proofs.Places.{Ends, ends-of}
 use Rattle.kernel.specs.Follow.{along}
@@ -14,11 +14,6 @@ use borrow.Author.Needs.{needs}
 use native.Mathlib.Omega.{arith}
 use Rattle.kernel.proofs.follow_marks.Statement.{statement}
 use Rattle.kernel.proofs.follow_marks.Tie as tie
-use Rattle.kernel.proofs.follow_marks.Reads as reads
-use Rattle.kernel.proofs.follow_marks.Lts as lts
-use Rattle.bits.proofs.first_bit.Reads as first-bit-reads
-use Rattle.kernel.proofs.note.Reads as note-reads
-use Rattle.marks.proofs.meeting.Reads as meeting-reads
 
 abbrev Inv-loop : tie.InvT-loop
 Inv-loop image table marks r column a f₀ head x₀ end f x = (x₀ ≤ x) × (x ≤ end) × (end ≤ 256) × Walk (along marks r a column) x₀ table f₀ f (x - x₀)

@@ -1,12 +1,9 @@
 -- `meet` by a test.
 -- Assumes nothing.
 use Rattle.bits.specs.Bit.{meet}
-use borrow.Author.Needs.{needs}
 use native.Mathlib.Omega.{arith}
 use Rattle.kernel.proofs.shares.Statement.{statement}
 use Rattle.kernel.proofs.shares.Tie as tie
-use Rattle.kernel.proofs.shares.Reads as reads
-use Rattle.kernel.proofs.shares.Lts as lts
 
 returns : tie.Need-returns
 unfolding meet

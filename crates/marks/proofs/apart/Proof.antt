@@ -6,8 +6,6 @@ use borrow.Author.Needs.{needs}
 use Rattle.marks.proofs.Marks.{apart-is}
 use Rattle.marks.proofs.apart.Statement.{statement}
 use Rattle.marks.proofs.apart.Tie as tie
-use Rattle.marks.proofs.apart.Reads as reads
-use Rattle.marks.proofs.apart.Lts as lts
 
 mul-some : tie.Need-mul-some
 mul-some c = search needs

@@ -1,12 +1,9 @@
 -- What two words share, which is nothing where the column has no split in that half.
 -- Assumes nothing.
-use native.Mathlib.Omega.{arith}
 use borrow.Author.Needs.{needs}
 use Rattle.marks.proofs.Marks.{common-is, none-common}
 use Rattle.marks.proofs.common.Statement.{statement}
 use Rattle.marks.proofs.common.Tie as tie
-use Rattle.marks.proofs.common.Reads as reads
-use Rattle.marks.proofs.common.Lts as lts
 
 add-if1 : tie.Need-add-if1
 add-if1 c = search needs

@@ -1,17 +1,11 @@
 -- The symbols are entered, and the last words of the block tell of them.
 -- Assumes nothing.
 use mathlib.Core.Path.{refl, _∙_}
-use native.Mathlib.Omega.{arith}
 use borrow.Author.Needs.{needs}
 use Rattle.bits.proofs.Bits.{put-alone}
-use Rattle.marks.proofs.Marks.{half-lt, rest-lt, marked, none-marked}
+use Rattle.marks.proofs.Marks.{marked, none-marked}
 use Rattle.marks.proofs.mark.Statement.{statement}
 use Rattle.marks.proofs.mark.Tie as tie
-use Rattle.marks.proofs.mark.Reads as reads
-use Rattle.marks.proofs.mark.Lts as lts
-use Rattle.bits.proofs.put_bit.Reads as put-bit-reads
-use Rattle.marks.proofs.join.Reads as join-reads
-use Rattle.marks.proofs.mark_symbols.Reads as mark-symbols-reads
 
 returns : tie.Need-returns
 returns c = none-marked _ _ _ _ (c .if1 .taken)

@@ -5,9 +5,6 @@ use native.Mathlib.Omega.{arith}
 use borrow.Author.Needs.{needs}
 use Rattle.marks.proofs.mark_cell.Statement.{statement}
 use Rattle.marks.proofs.mark_cell.Tie as tie
-use Rattle.marks.proofs.mark_cell.Reads as reads
-use Rattle.marks.proofs.mark_cell.Lts as lts
-use Rattle.marks.proofs.mark.Reads as mark-reads
 
 returns : tie.Need-returns
 returns c = record { long = refl; marked = λ there. absurd (omega (arith, c .if1 .taken)) }

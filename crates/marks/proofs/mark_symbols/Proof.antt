@@ -3,16 +3,10 @@
 use mathlib.Core.Path.{refl, _∙_}
 use borrow.Author.Needs.{needs}
 use Rattle.bits.proofs.Bits.{put-alone}
-use Rattle.marks.proofs.Marks.{half-lt, rest-lt, Part, part-start, part-step, part-done}
+use Rattle.marks.proofs.Marks.{Part, part-start, part-step, part-done}
 use native.Mathlib.Omega.{arith}
 use Rattle.marks.proofs.mark_symbols.Statement.{statement}
 use Rattle.marks.proofs.mark_symbols.Tie as tie
-use Rattle.marks.proofs.mark_symbols.Reads as reads
-use Rattle.marks.proofs.mark_symbols.Lts as lts
-use Rattle.bits.proofs.first_bit.Reads as first-bit-reads
-use Rattle.bits.proofs.put_bit.Reads as put-bit-reads
-use Rattle.bits.proofs.without.Reads as without-reads
-use Rattle.marks.proofs.join.Reads as join-reads
 
 abbrev Inv-loop : tie.InvT-loop
 Inv-loop marks₀ r j word from split rest₀ marks rest = Part marks₀ r j word marks rest

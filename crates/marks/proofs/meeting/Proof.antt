@@ -7,10 +7,6 @@ use borrow.Author.Needs.{needs}
 use Rattle.marks.proofs.Marks.{meeting-is, low-meeting-is}
 use Rattle.marks.proofs.meeting.Statement.{statement}
 use Rattle.marks.proofs.meeting.Tie as tie
-use Rattle.marks.proofs.meeting.Reads as reads
-use Rattle.marks.proofs.meeting.Lts as lts
-use Rattle.bits.proofs.ones.Reads as ones-reads
-use Rattle.marks.proofs.common.Reads as common-reads
 
 common-requires : tie.Need-common-requires
 common-requires c κs = search needs

@@ -1,12 +1,9 @@
 -- The last word of the block has every symbol that is marked in it.
 -- Assumes nothing.
-use native.Mathlib.Omega.{arith}
 use borrow.Author.Needs.{needs}
 use Rattle.marks.proofs.Marks.{seen-is}
 use Rattle.marks.proofs.seen.Statement.{statement}
 use Rattle.marks.proofs.seen.Tie as tie
-use Rattle.marks.proofs.seen.Reads as reads
-use Rattle.marks.proofs.seen.Lts as lts
 
 mul-result : tie.Need-mul-result
 mul-result c = search needs

@@ -1,15 +1,9 @@
--- Without marks, or with marks that start empty.
+-- With marks that start empty, or without.
 -- Assumes nothing.
 use Rattle.marks.proofs.Shows.{lefts-start}
-use native.Mathlib.Omega.{arith}
 use borrow.Author.Needs.{needs}
 use Rattle.table.proofs.fill_table.Statement.{statement}
 use Rattle.table.proofs.fill_table.Tie as tie
-use Rattle.table.proofs.fill_table.Reads as reads
-use Rattle.table.proofs.fill_table.Lts as lts
-use Rattle.layout.proofs.pair_count.Reads as pair-count-reads
-use Rattle.table.proofs.fill.fill_columns.Reads as fill-columns-reads
-use Rattle.table.proofs.marks_pay.Reads as marks-pay-reads
 
 pair-count-requires : tie.Need-pair-count-requires
 pair-count-requires c κs = search needs
@@ -21,7 +15,7 @@ slice-aggregate-fill-columns : tie.Need-slice-aggregate-fill-columns
 slice-aggregate-fill-columns c = search needs
 
 fill-columns-requires : tie.Need-fill-columns-requires
-fill-columns-requires c κs = let p = c .before .before .before .before .before .before .before .before .pre in (p .0, ((omega (arith, p .1 .0), p .1 .1), λ there. (p .1 .0, lefts-start _ _ 12576 (p .0 .sound .range .symbols))))
+fill-columns-requires c κs = let p = c .before .before .before .before .before .before .before .before .pre in (p .0, (p .1, λ there. (c .before .before .before .marks-pay .ensures (c .before .before .if1 .taken), lefts-start _ _ 12576 (p .0 .sound .range .symbols))))
 
 same-length : tie.Need-same-length
 same-length c = search needs

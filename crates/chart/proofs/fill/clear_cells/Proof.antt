@@ -7,8 +7,6 @@ use borrow.Author.Needs.{needs}
 use native.Mathlib.Omega.{arith}
 use Rattle.chart.proofs.fill.clear_cells.Statement.{statement}
 use Rattle.chart.proofs.fill.clear_cells.Tie as tie
-use Rattle.chart.proofs.fill.clear_cells.Reads as reads
-use Rattle.chart.proofs.fill.clear_cells.Lts as lts
 
 abbrev Inv-loop : tie.InvT-loop
 Inv-loop chart₀ first n x₀ chart x = (x ≤ n) × Framed chart₀ chart first n × Zeros chart first x

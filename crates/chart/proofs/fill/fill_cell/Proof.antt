@@ -6,11 +6,6 @@ use native.Mathlib.Omega.{arith}
 use borrow.Author.Needs.{needs}
 use Rattle.chart.proofs.fill.fill_cell.Statement.{statement}
 use Rattle.chart.proofs.fill.fill_cell.Tie as tie
-use Rattle.chart.proofs.fill.fill_cell.Reads as reads
-use Rattle.chart.proofs.fill.fill_cell.Lts as lts
-use Rattle.marks.proofs.mark_cell.Reads as mark-cell-reads
-use Rattle.chart.proofs.fill.work_cell.Reads as work-cell-reads
-use Rattle.derivation.proofs.cell_at.Reads as cell-at-reads
 
 work-cell-requires : tie.Need-work-cell-requires
 work-cell-requires c κs = search needs

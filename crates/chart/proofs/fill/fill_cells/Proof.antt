@@ -1,7 +1,7 @@
 -- The invariant: the last x + 1 cells of the column are filled, and the marks show them.
 -- Assumes nothing.
 use mathlib.Core.Path.{_≡_, refl, _∙_}
-use Prim.Native.Nat.{ℕ, _+_, _-_, _*_, _≤_, _<_}
+use Prim.Native.Nat.{_+_, _-_, _*_, _≤_}
 use native.Mathlib.Nat.{sub-zero}
 use lib.ListN.{length, length-set}
 use Rattle.layout.specs.Layout.{decode}
@@ -13,12 +13,6 @@ use borrow.Author.Needs.{needs}
 use native.Mathlib.Omega.{arith}
 use Rattle.chart.proofs.fill.fill_cells.Statement.{statement}
 use Rattle.chart.proofs.fill.fill_cells.Tie as tie
-use Rattle.chart.proofs.fill.fill_cells.Reads as reads
-use Rattle.chart.proofs.fill.fill_cells.Lts as lts
-use Rattle.chart.proofs.fill.fill_cell.Reads as fill-cell-reads
-use Rattle.marks.proofs.mark_cell.Reads as mark-cell-reads
-use Rattle.derivation.proofs.cell_at.Reads as cell-at-reads
-use Rattle.kernel.proofs.fire_event.Reads as fire-event-reads
 
 abbrev Inv-loop : tie.InvT-loop
 Inv-loop image table heard lefts₀ rights₀ event chart₀ q k at count₀ x₀ lefts rights chart count x =

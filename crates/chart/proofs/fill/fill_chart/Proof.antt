@@ -1,18 +1,19 @@
--- Without marks, or with marks that start empty.
+-- With marks that start empty, or without.
 -- Assumes nothing.
 use Rattle.marks.proofs.Shows.{lefts-start}
 use native.Mathlib.Omega.{arith}
 use borrow.Author.Needs.{needs}
 use Rattle.chart.proofs.fill.fill_chart.Statement.{statement}
 use Rattle.chart.proofs.fill.fill_chart.Tie as tie
-use Rattle.chart.proofs.fill.fill_chart.Reads as reads
-use Rattle.chart.proofs.fill.fill_chart.Lts as lts
-use Rattle.chart.proofs.fill.fill_columns.Reads as fill-columns-reads
-use Rattle.groups.proofs.group_rules.Reads as group-rules-reads
-use Rattle.kernel.proofs.events_of.Reads as events-of-reads
 
 group-rules-requires : tie.Need-group-rules-requires
 group-rules-requires c κs = search needs
+
+pay-requires : tie.Need-pay-requires
+pay-requires c κs = search needs
+
+events-of-requires : tie.Need-events-of-requires
+events-of-requires c κs = search needs
 
 slice-aggregate-fill-columns : tie.Need-slice-aggregate-fill-columns
 slice-aggregate-fill-columns c = search needs
@@ -22,17 +23,14 @@ slice-aggregate-fill-columns-2 c = search needs
 
 fill-columns-requires : tie.Need-fill-columns-requires
 fill-columns-requires c κs =
-    let p = c .before .before .before .before .before .before .before .before .before .pre in
-    (p .0, (c .before .before .before .before .before .group-rules .ensures, ((omega arith, p .1 .1), (λ there. absurd (omega (arith, there)), λ there. absurd (omega (arith, there))))))
+    let p = c .before .before .before .before .before .before .before .before .before .before .before .pre in
+    (p .0, (c .before .before .before .before .before .before .before .group-rules .ensures, (p .1, (λ there. (c .before .before .before .before .before .before .pay .ensures (c .before .before .before .before .before .if1 .taken), lefts-start _ _ 12576 (omega arith)), λ there. c .before .before .before .before .events-of .ensures))))
 
 same-length : tie.Need-same-length
 same-length c = search needs
 
 returns : tie.Need-returns
 returns c = search needs
-
-events-of-requires : tie.Need-events-of-requires
-events-of-requires c κs = search needs
 
 slice-aggregate-fill-columns-3 : tie.Need-slice-aggregate-fill-columns-3
 slice-aggregate-fill-columns-3 c = search needs
@@ -43,7 +41,7 @@ slice-aggregate-fill-columns-4 c = search needs
 fill-columns-requires-2 : tie.Need-fill-columns-requires-2
 fill-columns-requires-2 c κs =
     let p = c .before .before .before .before .before .before .before .before .before .before .pre in
-    (p .0, (c .before .before .before .before .before .before .group-rules .ensures, ((omega arith, p .1 .1), (λ there. (p .1 .0, lefts-start _ _ 12576 (omega arith)), λ there. c .before .before .before .before .events-of .ensures))))
+    (p .0, (c .before .before .before .before .before .before .group-rules .ensures, (p .1, (λ there. absurd (omega (arith, there)), λ there. absurd (omega (arith, there))))))
 
 same-length-2 : tie.Need-same-length-2
 same-length-2 c = search needs
@@ -56,12 +54,13 @@ fill-chart-spec =
     tie.close
     (tie.spec
     group-rules-requires
+    pay-requires
+    events-of-requires
     slice-aggregate-fill-columns
     slice-aggregate-fill-columns-2
     fill-columns-requires
     same-length
     returns
-    events-of-requires
     slice-aggregate-fill-columns-3
     slice-aggregate-fill-columns-4
     fill-columns-requires-2

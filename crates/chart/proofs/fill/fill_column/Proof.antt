@@ -5,9 +5,6 @@ use native.Mathlib.Omega.{arith}
 use borrow.Author.Needs.{needs}
 use Rattle.chart.proofs.fill.fill_column.Statement.{statement}
 use Rattle.chart.proofs.fill.fill_column.Tie as tie
-use Rattle.chart.proofs.fill.fill_column.Reads as reads
-use Rattle.chart.proofs.fill.fill_column.Lts as lts
-use Rattle.chart.proofs.fill.fill_cells.Reads as fill-cells-reads
 
 slice-aggregate-fill-cells : tie.Need-slice-aggregate-fill-cells
 slice-aggregate-fill-cells c = search needs

@@ -13,9 +13,6 @@ use borrow.Author.Needs.{needs}
 use native.Mathlib.Omega.{arith}
 use Rattle.chart.proofs.fill.fill_columns.Statement.{statement}
 use Rattle.chart.proofs.fill.fill_columns.Tie as tie
-use Rattle.chart.proofs.fill.fill_columns.Reads as reads
-use Rattle.chart.proofs.fill.fill_columns.Lts as lts
-use Rattle.chart.proofs.fill.fill_column.Reads as fill-column-reads
 
 abbrev Inv-loop : tie.InvT-loop
 Inv-loop image table heard lefts₀ events chart₀ count₀ q₀ q-end lefts chart count q =

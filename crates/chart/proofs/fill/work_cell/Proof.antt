@@ -6,10 +6,6 @@ use native.Mathlib.Omega.{arith}
 use borrow.Author.Needs.{needs}
 use Rattle.chart.proofs.fill.work_cell.Statement.{statement}
 use Rattle.chart.proofs.fill.work_cell.Tie as tie
-use Rattle.chart.proofs.fill.work_cell.Reads as reads
-use Rattle.chart.proofs.fill.work_cell.Lts as lts
-use Rattle.chart.proofs.fill.walk_cell.Reads as walk-cell-reads
-use Rattle.kernel.proofs.fire_marks.Reads as fire-marks-reads
 
 walk-cell-requires : tie.Need-walk-cell-requires
 walk-cell-requires c κs = search needs

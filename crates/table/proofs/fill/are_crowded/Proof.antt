@@ -4,9 +4,6 @@ use native.Mathlib.Omega.{arith}
 use borrow.Author.Needs.{needs}
 use Rattle.table.proofs.fill.are_crowded.Statement.{statement}
 use Rattle.table.proofs.fill.are_crowded.Tie as tie
-use Rattle.table.proofs.fill.are_crowded.Reads as reads
-use Rattle.table.proofs.fill.are_crowded.Lts as lts
-use Rattle.marks.proofs.meeting.Reads as meeting-reads
 
 returns : tie.Need-returns
 returns c = search needs

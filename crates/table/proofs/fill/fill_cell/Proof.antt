@@ -7,13 +7,6 @@ use native.Mathlib.Omega.{arith}
 use borrow.Author.Needs.{needs}
 use Rattle.table.proofs.fill.fill_cell.Statement.{statement}
 use Rattle.table.proofs.fill.fill_cell.Tie as tie
-use Rattle.table.proofs.fill.fill_cell.Reads as reads
-use Rattle.table.proofs.fill.fill_cell.Lts as lts
-use Rattle.layout.proofs.symbol_count.Reads as symbol-count-reads
-use Rattle.marks.proofs.mark_cell.Reads as mark-cell-reads
-use Rattle.table.proofs.fill.symbols_of.Reads as symbols-of-reads
-use Rattle.table.proofs.fill.work_cell.Reads as work-cell-reads
-use Rattle.table.proofs.splits.slot.Reads as slot-reads
 
 work-cell-requires : tie.Need-work-cell-requires
 work-cell-requires c κs = search needs

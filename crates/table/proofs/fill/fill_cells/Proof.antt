@@ -15,9 +15,6 @@ use borrow.Author.Needs.{needs}
 use native.Mathlib.Omega.{arith}
 use Rattle.table.proofs.fill.fill_cells.Statement.{statement}
 use Rattle.table.proofs.fill.fill_cells.Tie as tie
-use Rattle.table.proofs.fill.fill_cells.Reads as reads
-use Rattle.table.proofs.fill.fill_cells.Lts as lts
-use Rattle.table.proofs.fill.fill_cell.Reads as fill-cell-reads
 
 abbrev Inv-loop : tie.InvT-loop
 Inv-loop image events table₀ lefts₀ rights₀ k i₀ table lefts rights i =

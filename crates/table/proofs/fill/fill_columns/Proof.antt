@@ -14,9 +14,6 @@ use borrow.Author.Needs.{needs}
 use native.Mathlib.Omega.{arith}
 use Rattle.table.proofs.fill.fill_columns.Statement.{statement}
 use Rattle.table.proofs.fill.fill_columns.Tie as tie
-use Rattle.table.proofs.fill.fill_columns.Reads as reads
-use Rattle.table.proofs.fill.fill_columns.Lts as lts
-use Rattle.table.proofs.fill.fill_column.Reads as fill-column-reads
 
 abbrev Inv-loop : tie.InvT-loop
 Inv-loop image events table₀ lefts₀ k₀ table lefts k =

@@ -1,13 +1,9 @@
 -- Without marks nothing is known of what meets.
 -- Assumes nothing.
 use mathlib.Core.Bool.{false≢true}
-use borrow.Author.Needs.{needs}
 use native.Mathlib.Omega.{arith}
 use Rattle.table.proofs.fill.none_meet.Statement.{statement}
 use Rattle.table.proofs.fill.none_meet.Tie as tie
-use Rattle.table.proofs.fill.none_meet.Reads as reads
-use Rattle.table.proofs.fill.none_meet.Lts as lts
-use Rattle.marks.proofs.apart.Reads as apart-reads
 
 returns : tie.Need-returns
 returns c = λ e. absurd (false≢true e)

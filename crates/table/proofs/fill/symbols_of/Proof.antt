@@ -7,10 +7,6 @@ use borrow.Author.Needs.{needs}
 use native.Mathlib.Omega.{arith}
 use Rattle.table.proofs.fill.symbols_of.Statement.{statement}
 use Rattle.table.proofs.fill.symbols_of.Tie as tie
-use Rattle.table.proofs.fill.symbols_of.Reads as reads
-use Rattle.table.proofs.fill.symbols_of.Lts as lts
-use Rattle.bits.proofs.put_bit.Reads as put-bit-reads
-use Rattle.table.proofs.fill.some.Reads as some-reads
 
 abbrev Inv-loop : tie.InvT-loop
 Inv-loop table base n word₀ a₀ word a = (a ≤ n) × Gathered table base a word

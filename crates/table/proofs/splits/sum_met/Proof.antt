@@ -8,11 +8,6 @@ use native.Mathlib.Omega.{arith}
 use borrow.Author.Needs.{needs}
 use Rattle.table.proofs.splits.sum_met.Statement.{statement}
 use Rattle.table.proofs.splits.sum_met.Tie as tie
-use Rattle.table.proofs.splits.sum_met.Reads as reads
-use Rattle.table.proofs.splits.sum_met.Lts as lts
-use Rattle.marks.proofs.common.Reads as common-reads
-use Rattle.table.proofs.numbers.hold.Reads as hold-reads
-use Rattle.table.proofs.splits.sum_set.Reads as sum-set-reads
 
 common-requires : tie.Need-common-requires
 common-requires c κs =

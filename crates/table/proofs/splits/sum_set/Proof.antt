@@ -1,10 +1,7 @@
 -- The invariant: all splits of the set but those of `rest` are added.
 -- Assumes nothing.
-use mathlib.Core.Path.{_≡_}
-use Prim.Native.Nat.{ℕ, _+_, _≤_}
-use Rattle.bits.specs.Bit.{bit}
+use Prim.Native.Nat.{ℕ, _+_}
 use Rattle.bits.proofs.Bits.{bit-lt}
-use Rattle.table.specs.Table.{limit}
 use Rattle.table.specs.Fill.{splitAdds}
 use Rattle.table.proofs.Walks.{split-small}
 use Rattle.table.proofs.Sets.{Added, added-start, added-step, added-few, added-done}
@@ -12,11 +9,6 @@ use borrow.Author.Needs.{needs}
 use native.Mathlib.Omega.{arith}
 use Rattle.table.proofs.splits.sum_set.Statement.{statement}
 use Rattle.table.proofs.splits.sum_set.Tie as tie
-use Rattle.table.proofs.splits.sum_set.Reads as reads
-use Rattle.table.proofs.splits.sum_set.Lts as lts
-use Rattle.bits.proofs.first_bit.Reads as first-bit-reads
-use Rattle.bits.proofs.without.Reads as without-reads
-use Rattle.table.proofs.split_count.Reads as split-count-reads
 
 abbrev Inv-loop : tie.InvT-loop
 Inv-loop table symbols left right i k splits from total₀ rest₀ total rest =

@@ -4,10 +4,6 @@ use native.Mathlib.Omega.{arith}
 use borrow.Author.Needs.{needs}
 use Rattle.table.proofs.splits.sum_splits.Statement.{statement}
 use Rattle.table.proofs.splits.sum_splits.Tie as tie
-use Rattle.table.proofs.splits.sum_splits.Reads as reads
-use Rattle.table.proofs.splits.sum_splits.Lts as lts
-use Rattle.table.proofs.splits.sum_all.Reads as sum-all-reads
-use Rattle.table.proofs.splits.sum_met.Reads as sum-met-reads
 
 sum-all-requires : tie.Need-sum-all-requires
 sum-all-requires c κs = c .before .before .before .before .pre .0
