@@ -61,16 +61,8 @@ fn mark(marks: &mut [u64], r: usize, j: usize, word: u64)
     join(marks, base + 130, word);
 }
 
-// The symbols of cell (i, k): it is a left part of the stretches that begin with it, and a right part of those that end with it.
-fn mark_parts(lefts: &mut [u64], rights: &mut [u64], i: usize, k: usize, word: u64)
-    requires { ⌜ (i < k) × (k ≤ 96) × InUse (now lefts) × (131 ≤ length (now rights)) ⌝ }
-    ensures { λ _. ⌜ Marked (now (lefts .entry)) (now (lefts .exit)) i k word × Marked (now (rights .entry)) (now (rights .exit)) 0 i word ⌝ }
-{
-    mark(lefts, i, k, word);
-    mark(rights, 0, i, word);
-}
-
-// Marks the symbols of cell (i, k), where there are marks.
+// Marks the symbols of cell (i, k), where there are marks: the cell is a left part of the stretches that begin with it, and a right part of those
+// that end with it.
 pub fn mark_cell(lefts: &mut [u64], rights: &mut [u64], i: usize, k: usize, word: u64)
     requires { ⌜ (i < k) × (InUse (now lefts) → (k ≤ 96) × (131 ≤ length (now rights))) ⌝ }
     ensures { λ _. ⌜ CellMarked (now (lefts .entry)) (now (lefts .exit)) (now (rights .entry)) (now (rights .exit)) i k word ⌝ }
@@ -78,7 +70,8 @@ pub fn mark_cell(lefts: &mut [u64], rights: &mut [u64], i: usize, k: usize, word
     if lefts.len() < LEFTS {
         return;
     }
-    mark_parts(lefts, rights, i, k, word);
+    mark(lefts, i, k, word);
+    mark(rights, 0, i, word);
 }
 
 // All the symbols that stand anywhere in block r.
