@@ -30,19 +30,23 @@ impl<T: Copy> Table<T> {
         Table { symbols, words }
     }
 
+    /// The words of all symbols over one stretch.
+    fn over(&self, i: usize, k: usize) -> &[T] {
+        let first = cell(i, k) * self.symbols;
+        &self.words[first..first + self.symbols]
+    }
+
+    fn over_mut(&mut self, i: usize, k: usize) -> &mut [T] {
+        let first = cell(i, k) * self.symbols;
+        &mut self.words[first..first + self.symbols]
+    }
+
     pub fn get(&self, a: usize, i: usize, k: usize) -> T {
-        self.words[cell(i, k) * self.symbols + a]
+        self.over(i, k)[a]
     }
 
     fn set(&mut self, a: usize, i: usize, k: usize, word: T) {
-        self.words[cell(i, k) * self.symbols + a] = word;
-    }
-}
-
-impl Table<u128> {
-    /// Cut at the largest u128.
-    fn add(&mut self, a: usize, i: usize, k: usize, count: u128) {
-        self.set(a, i, k, self.get(a, i, k).saturating_add(count));
+        self.over_mut(i, k)[a] = word;
     }
 }
 
@@ -71,7 +75,7 @@ pub fn derivable(grammar: &Grammar, events: &[u16]) -> Table<bool> {
 }
 
 /// The number of derivations of [A, i, k], for each symbol A and each stretch, cut at the largest
-/// u128.
+/// u64.
 ///
 /// Let M be that largest number. Each word is the smaller of M and the true number. For single
 /// events that is plain; take it for the premises of a longer stretch. A product of two words of
@@ -79,19 +83,23 @@ pub fn derivable(grammar: &Grammar, events: &[u16]) -> Table<bool> {
 /// product is M or more and the cut one is M. If none was cut, the product is the true one until it
 /// is cut itself. The same goes for sums. As M is above 4,294,967,295, the smaller of that and the
 /// word is the smaller of that and the true number.
-pub fn counts(grammar: &Grammar, events: &[u16]) -> Table<u128> {
+pub fn counts(grammar: &Grammar, events: &[u16]) -> Table<u64> {
     let mut known = Table::filled(0, grammar.symbols, events.len());
     for (i, k) in stretches(events.len()) {
+        let mut sums = vec![0; grammar.symbols];
+        let mut add = |a: usize, count: u64| sums[a] = u64::saturating_add(sums[a], count);
         for rule in &grammar.event_rules {
-            known.add(rule.symbol, i, k, matches(rule, events, i, k).into());
+            add(rule.symbol, matches(rule, events, i, k).into());
         }
         // Split by split, since the words of its two cells stand together: large tables are slow.
         for j in i + 1..k {
+            let (lefts, rights) = (known.over(i, j), known.over(j, k));
             for rule in &grammar.pair_rules {
-                let (left, right) = (known.get(rule.left, i, j), known.get(rule.right, j, k));
-                known.add(rule.symbol, i, k, u128::saturating_mul(left, right));
+                let (left, right) = (lefts[rule.left], rights[rule.right]);
+                add(rule.symbol, u64::saturating_mul(left, right));
             }
         }
+        known.over_mut(i, k).copy_from_slice(&sums);
     }
     known
 }
@@ -106,9 +114,9 @@ pub fn firings(grammar: &Grammar, events: &[u16], derivable: &Table<bool>) -> u6
     }
     for (i, k) in stretches(events.len()) {
         for j in i + 1..k {
+            let (lefts, rights) = (derivable.over(i, j), derivable.over(j, k));
             for rule in &grammar.pair_rules {
-                let both = derivable.get(rule.left, i, j) && derivable.get(rule.right, j, k);
-                firings += u64::from(both);
+                firings += u64::from(lefts[rule.left] && rights[rule.right]);
             }
         }
     }

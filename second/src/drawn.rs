@@ -43,7 +43,13 @@ pub fn live_image(
     pair_rules: usize,
 ) -> Vec<u8> {
     let image = any_image(random, symbols, kinds, event_rules, pair_rules);
-    let mut grammar = shown(&image).expect("symbols and rules within their limits");
+    let grammar = shown(&image).expect("symbols and rules within their limits");
+    image_of(&enlivened(random, grammar, kinds))
+}
+
+/// The grammar with the rules that it takes so that no symbol is dead; they turn symbols into these
+/// events.
+pub fn enlivened(random: &mut Random, mut grammar: Grammar, kinds: &[u16]) -> Grammar {
     while let Some(symbol) = any_of(random, &barren(&grammar)) {
         let event = random.one_of(kinds);
         grammar.event_rules.push(EventRule { symbol, event });
@@ -52,7 +58,7 @@ pub fn live_image(
         let rule = way_to(random, &grammar, symbol);
         grammar.pair_rules.push(rule);
     }
-    image_of(&grammar)
+    grammar
 }
 
 fn any_of(random: &mut Random, symbols: &[usize]) -> Option<usize> {

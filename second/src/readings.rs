@@ -6,13 +6,13 @@ use crate::trees::{script_words, Forest};
 use std::cell::OnceCell;
 
 /// Up to so many readings all are written down and sorted.
-const FEW: u128 = 2_000;
+const FEW: u64 = 2_000;
 
 /// The readings of a record, numbered.
 pub struct Readings<'a> {
     grammar: &'a Grammar,
     events: &'a [u16],
-    counts: Table<u128>,
+    counts: Table<u64>,
     /// Every script in order, once one is asked for and where there are few.
     listed: OnceCell<Vec<Vec<u16>>>,
 }
@@ -27,17 +27,17 @@ impl<'a> Readings<'a> {
         }
     }
 
-    /// The number of derivations of [a, 0, n], cut at the largest u128; none of an empty record.
-    pub fn derivations(&self, a: usize) -> u128 {
+    /// The number of derivations of [a, 0, n], cut at the largest u64; none of an empty record.
+    pub fn derivations(&self, a: usize) -> u64 {
         match self.events.len() {
             0 => 0,
             n => self.counts.get(a, 0, n),
         }
     }
 
-    /// The number of readings, cut at the largest u128. An empty record has one where the grammar
+    /// The number of readings, cut at the largest u64. An empty record has one where the grammar
     /// admits it, though no symbol derives it.
-    pub fn total(&self) -> u128 {
+    pub fn total(&self) -> u64 {
         match self.events {
             [] => self.grammar.admits_empty.into(),
             _ => self.derivations(0),
@@ -60,11 +60,11 @@ impl<'a> Readings<'a> {
 
     /// The script of derivation `number` of [a, i, k], found by how many come before it; `number`
     /// must be below their count. It is only compared with counts and divided by one, and it is far
-    /// below the largest u128, so that a count cut there does as well as the true one.
+    /// below the largest u64, so that a count cut there does as well as the true one.
     ///
     /// The scripts of one stretch are equally long, and so are their left parts if the splits are
     /// equal. So the rule decides first, then the split, then the left part, then the right part.
-    pub fn unranked(&self, a: usize, i: usize, k: usize, mut number: u128) -> Vec<u16> {
+    pub fn unranked(&self, a: usize, i: usize, k: usize, mut number: u64) -> Vec<u16> {
         for (rule, event_rule) in self.grammar.event_rules_of(a) {
             if matches(event_rule, self.events, i, k) {
                 if number == 0 {
@@ -90,7 +90,7 @@ impl<'a> Readings<'a> {
 }
 
 /// The smaller of 4,294,967,295 and the count.
-pub fn cut(count: u128) -> u32 {
+pub fn cut(count: u64) -> u32 {
     count.min(u32::MAX.into()) as u32
 }
 

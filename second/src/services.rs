@@ -170,7 +170,7 @@ fn read(
     let readings = Readings::of(&grammar, events);
     table[..need].copy_from_slice(&readings.table());
     let past_numbering = k == u32::MAX && readings.total() >= u32::MAX.into();
-    refuse_if(u128::from(k) >= readings.total() && !past_numbering, 12)?;
+    refuse_if(u64::from(k) >= readings.total() && !past_numbering, 12)?;
     refuse_if(past_numbering, 13)?;
     script[..words].copy_from_slice(&readings.script(k));
     Ok(())

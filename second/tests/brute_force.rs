@@ -49,7 +49,7 @@ fn counts_chart_and_firings() {
         let mut fired = 0;
         for (i, k) in stretches(events.len()) {
             for a in 0..grammar.symbols {
-                assert_eq!(counts.get(a, i, k), all(a, i, k) as u128);
+                assert_eq!(counts.get(a, i, k), all(a, i, k) as u64);
                 assert_eq!(derivable.get(a, i, k), all(a, i, k) > 0);
             }
             for rule in &grammar.event_rules {
@@ -75,9 +75,9 @@ fn readings_both_ways() {
         sorted.sort();
         let readings = Readings::of(&grammar, &events);
         assert_eq!(listed(&grammar, &events), sorted);
-        assert_eq!(readings.total(), sorted.len() as u128);
+        assert_eq!(readings.total(), sorted.len() as u64);
         for (number, script) in sorted.iter().enumerate() {
-            assert_eq!(readings.unranked(0, 0, n, number as u128), *script);
+            assert_eq!(readings.unranked(0, 0, n, number as u64), *script);
             assert_eq!(readings.script(number as u32), *script);
         }
         seen += sorted.len();
@@ -140,7 +140,7 @@ fn exact_totals() {
     let grammar = decode(&binary()).expect("an accepted image");
     for total in [1, 2, 1_999, 2_000, 2_001, 4_294_967_295, 1 << 32, u64::MAX] {
         let events = digits(total);
-        assert_eq!(Readings::of(&grammar, &events).total(), total.into());
+        assert_eq!(Readings::of(&grammar, &events).total(), total);
     }
 }
 
@@ -161,7 +161,7 @@ fn scripts_rise() {
     }
 }
 
-/// Seven symbols that can be anything have more derivations than a u128 holds.
+/// Seven symbols that can be anything have more derivations than a u64 holds.
 #[test]
 fn more_than_can_be_counted() {
     let pair_rules: Vec<_> = (0..=255).map(|r| (r / 37, r / 7 % 7, r % 7)).collect();
@@ -169,7 +169,7 @@ fn more_than_can_be_counted() {
     let image = image(7, &event_rules, &pair_rules);
     let grammar = decode(&image).expect("an accepted image");
     let readings = Readings::of(&grammar, &[0; 96]);
-    assert_eq!(readings.total(), u128::MAX);
+    assert_eq!(readings.total(), u64::MAX);
     let (first, last) = (readings.script(0), readings.script(4_294_967_294));
     assert!(first < last);
     assert!(is_reading(&grammar, &[0; 96], &last));

@@ -3,6 +3,7 @@
 
 use crate::damage::RULE_FAULTS;
 use crate::dead::{one_dead_case, raw_case, ring_case};
+use crate::layered::{counted_case, layered_case};
 use second::drawn::{any_symbol, live_image, pair_rule, with_symbol};
 use second::examples::{binary, chain, digits, image, image_of, stop};
 use second::image::{decode, header_bytes, shown};
@@ -17,14 +18,14 @@ pub type Drawn = (Vec<u8>, Vec<u16>);
 /// where they aren't damaged, and how one is drawn.
 type Kind = (&'static str, usize, u8, fn(&mut Random) -> Drawn);
 
-pub const KINDS: [Kind; 15] = [
+pub const KINDS: [Kind; 17] = [
     ("chain", 40, 0, chain_case),
     ("stop", 30, 0, stop_case),
-    ("binary", 100, 0, binary_case),
+    ("binary", 85, 0, binary_case),
     ("product", 50, 0, product_case),
-    ("dense", 275, 0, |random| dense(random, live_image)),
-    ("sparse", 235, 0, |random| sparse(random, live_image)),
-    ("wide", 70, 0, |random| wide(random, live_image)),
+    ("dense", 258, 0, |random| dense(random, live_image)),
+    ("sparse", 206, 0, |random| sparse(random, live_image)),
+    ("wide", 65, 0, |random| wide(random, live_image)),
     ("ring", 20, 0, ring_case),
     ("raw", 26, 15, raw_case),
     ("one dead", 60, 15, one_dead_case),
@@ -32,6 +33,8 @@ pub const KINDS: [Kind; 15] = [
     ("limits", 20, 0, limits_case),
     ("header", 30, 15, header_case),
     ("long", 13, 0, long_case),
+    ("layered", 50, 0, layered_case),
+    ("counted", 16, 0, counted_case),
     ("largest", 1, 0, largest_case),
 ];
 
@@ -39,7 +42,7 @@ pub const KINDS: [Kind; 15] = [
 type DrawImage = fn(&mut Random, usize, &[u16], usize, usize) -> Vec<u8>;
 
 /// Events that differ in the low byte only, in the high byte only, and in both.
-const EVENTS: [u16; 10] = [0, 1, 7, 255, 256, 257, 1_792, 0x8000, 0xFF00, 0xFFFF];
+pub const EVENTS: [u16; 10] = [0, 1, 7, 255, 256, 257, 1_792, 0x8000, 0xFF00, 0xFFFF];
 
 /// The longest records, but for some that are very much too long.
 pub const LONGEST: usize = MOST_EVENTS + 4;

@@ -2,6 +2,8 @@
 
 use crate::damage::FAULTS;
 use crate::draw::KINDS;
+use crate::filled;
+use crate::layered::LENGTHS;
 use crate::layouts::OF_LAYOUTS;
 use crate::quiet;
 use crate::remarks::{names, OF_RULES};
@@ -17,10 +19,6 @@ const NUMBERS: [(&str, &[u8]); 5] = [
     ("reading", &[0, 1, 2, 3, 4, 5, 6, 7, 15, 8, 10, 11, 12, 13]),
     ("check", &[0, 1, 2, 3, 4, 5, 6, 7, 15, 8]),
 ];
-
-/// Numbers of events around the bits of a word and around the limit, and the number of each service
-/// over such a record.
-const LENGTHS: [(usize, u8); 4] = [(64, 0), (65, 0), (96, 0), (97, 8)];
 
 const ROOMS: [&str; 3] = ["chart", "table", "script room"];
 
@@ -50,7 +48,7 @@ const OTHERS: [&str; 26] = [
     "true total: 4294967294",
     "true total: 4294967295",
     "true total: 4294967296",
-    "true total: above 64 bits",
+    "true total: 64 bits or more",
     "every flag",
     "largest image and record",
 ];
@@ -71,8 +69,10 @@ pub fn expected() -> Vec<String> {
         all.extend([0, 1].map(|flag| format!("{service}: twin with flag {flag}")));
     }
     for (service, _) in &NUMBERS[1..] {
-        all.extend(LENGTHS.map(|(n, number)| format!("{service}: {n} events, number {number}")));
+        all.extend(LENGTHS.map(|n| format!("{service}: {n} events, number 0")));
+        all.push(format!("{service}: 97 events, number 8"));
     }
+    all.extend(LENGTHS.map(|n| format!("check: {n} events, yes")));
     for room in ROOMS {
         all.extend(FITS.map(|fit| format!("{room}: {fit}")));
         all.extend(FITS.map(|fit| format!("{room} for 96 events: {fit}")));
@@ -82,6 +82,7 @@ pub fn expected() -> Vec<String> {
     let spoiled = CHANGES[1..].iter();
     all.extend(spoiled.map(|(name, _)| format!("check: no: {name}")));
     all.extend(quiet::expected());
+    all.extend(filled::expected());
     all.extend(OTHERS.map(str::to_string));
     all
 }

@@ -7,6 +7,8 @@ mod damage;
 mod dead;
 mod draw;
 mod expected;
+mod filled;
+mod layered;
 mod layouts;
 mod lent;
 mod plan;
@@ -20,6 +22,7 @@ mod tally;
 mod versions;
 
 use damage::FAULTS;
+use layered::LENGTHS;
 use plan::{Plan, Step};
 use remarks::remarks;
 use second::random::Random;
@@ -133,6 +136,7 @@ fn compare(seed: u64, case: u64, tally: &mut Tally) -> Result<(), String> {
             compare_twin(&twin, &second)?;
         }
         note(tally, &step, second.answer);
+        note_filled(tally, &second);
     }
     Ok(())
 }
@@ -184,13 +188,16 @@ fn agree(lent: &Setting, [one, other]: [(&str, &Called); 2]) -> Result<(), Strin
     ))
 }
 
-/// Records around the bits of a word and around the limit are counted on their own.
-fn note_length(tally: &mut Tally, step: &Step, number: u8) {
+/// Records of some lengths are counted on their own.
+fn note_length(tally: &mut Tally, step: &Step, answer: &Answer) {
     let service = step.setting.service();
     let n = step.setting.events.slice().len();
-    let notable = [64, 65, MOST_EVENTS, MOST_EVENTS + 1].contains(&n);
-    if service != "test" && notable && [0, 8].contains(&number) {
-        tally.add(format!("{service}: {n} events, number {number}"));
+    let notable = n == MOST_EVENTS + 1 || LENGTHS.contains(&n);
+    if service != "test" && notable && [0, 8].contains(&answer.number) {
+        tally.add(format!("{service}: {n} events, number {}", answer.number));
+    }
+    if service == "check" && notable && answer.rest[0] == 1 {
+        tally.add(format!("check: {n} events, yes"));
     }
 }
 
@@ -204,6 +211,15 @@ fn note_dead(tally: &mut Tally, step: &Step) {
     }
 }
 
+/// What is told of a chart or a table that was filled; refusals 12 and 13 leave one too.
+fn note_filled(tally: &mut Tally, second: &Called) {
+    if [0, 12, 13].contains(&second.answer.number) {
+        for line in filled::lines(&second.setting) {
+            tally.add(line);
+        }
+    }
+}
+
 fn note(tally: &mut Tally, step: &Step, answer: Answer) {
     let Answer { number, rest, .. } = answer;
     let service = step.setting.service();
@@ -211,7 +227,7 @@ fn note(tally: &mut Tally, step: &Step, answer: Answer) {
     for remark in remarks(step.setting.image.slice(), &answer) {
         tally.add(format!("{service}: number {number}, {remark}"));
     }
-    note_length(tally, step, number);
+    note_length(tally, step, &answer);
     if number == 15 {
         note_dead(tally, step);
     }

@@ -99,8 +99,13 @@ impl<'a> Plan<'a> {
             self.note_sizes(grammar, readings.total());
         }
         let mut steps = Vec::new();
-        let slow = grammar.pair_rules.len() * self.n.pow(3) > 2_000_000;
-        for _ in 0..if slow { 1 } else { 3 } {
+        // Each takes as long as a count.
+        let calls = match grammar.pair_rules.len() * self.n.pow(3) {
+            0..=500_000 => 3,
+            500_001..=5_000_000 => 2,
+            _ => 1,
+        };
+        for _ in 0..calls {
             let k = self.any_k(cut(readings.total()));
             let note = of_number(k, readings.total());
             steps.push(Step {
@@ -154,7 +159,7 @@ impl<'a> Plan<'a> {
     }
 
     /// Sizes and totals that are easily got wrong are counted on their own.
-    fn note_sizes(&mut self, grammar: &Grammar, total: u128) {
+    fn note_sizes(&mut self, grammar: &Grammar, total: u64) {
         let rules = (grammar.event_rules.len(), grammar.pair_rules.len());
         if (self.n, grammar.symbols, rules) == (MOST_EVENTS, 64, (512, 256)) {
             self.tally.add("largest image and record");
@@ -162,8 +167,8 @@ impl<'a> Plan<'a> {
         let near = 4_294_967_294..=4_294_967_296;
         if near.contains(&total) {
             self.tally.add(format!("true total: {total}"));
-        } else if total > u64::MAX.into() {
-            self.tally.add("true total: above 64 bits");
+        } else if total == u64::MAX {
+            self.tally.add("true total: 64 bits or more");
         }
     }
 
@@ -217,10 +222,10 @@ impl<'a> Plan<'a> {
 }
 
 /// What there is of this number where the rules make so many readings.
-fn of_number(k: u32, total: u128) -> &'static str {
+fn of_number(k: u32, total: u64) -> &'static str {
     match k {
         u32::MAX if total >= u32::MAX.into() => "k past all numbers",
-        _ if u128::from(k) < total => "k of a reading",
+        _ if u64::from(k) < total => "k of a reading",
         _ => "k past the count",
     }
 }

@@ -61,7 +61,7 @@ pub fn of_another_symbol(
     }
     let a = random.one_of(&others);
     let number = random.below(cut(readings.derivations(a)) as usize);
-    Some(readings.unranked(a, 0, events.len(), number as u128))
+    Some(readings.unranked(a, 0, events.len(), number as u64))
 }
 
 /// The record with one event changed, perhaps to one that the rules know, or an empty record.
