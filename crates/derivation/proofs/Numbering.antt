@@ -1,7 +1,7 @@
 -- `derivations` numbers the derivations of [A, i, k] and `readings` the readings, and no other list does; `known` tells whether there is
 -- a derivation, and no other number does.
 -- Assumes nothing.
-use mathlib.Core.Path.{_≡_, sym, subst, _∙_}
+use mathlib.Core.Path.{_≡_, sym, ap, subst, _∙_}
 use mathlib.Core.List.{List, [], _∷_}
 use Prim.Native.Nat.{ℕ, suc, _<_}
 use native.Mathlib.Nat.{zero-lt-suc}
@@ -9,10 +9,11 @@ use native.Mathlib.Omega.{arith}
 use native.Mathlib.Decide.{decLt, ℕ-discrete}
 use lib.ListN.{length, getD}
 use Rattle.derivation.specs.Grammar.{Grammar}
+use Rattle.derivation.specs.Order.{Before}
 use Rattle.derivation.specs.Tree.{Derives, Derivable, script}
-use Rattle.derivation.specs.Reading.{quiet, Reads, spelling}
+use Rattle.derivation.specs.Reading.{quiet, Reads, spelling, IsReading}
 use Rattle.derivation.specs.Numbering.{none, Numbers, NumbersReadings, NumbersDerivations, Tells}
-use Rattle.derivation.specs.Derivations.{derivations, readings, known}
+use Rattle.derivation.specs.Derivations.{derivations, readings, NumberOf, known}
 use Rattle.derivation.proofs.Lists.{_∈_, in-getD, place-of}
 use Rattle.derivation.proofs.Orders.{By, not-before-self, before-asym, Rising, rising-at, rising-unique}
 use Rattle.derivation.proofs.Exact.{derivations-sound, derivations-complete}
@@ -37,13 +38,14 @@ module _ {X : Type 0} (Is : X → Type 0) (scriptOf : X → List ℕ) (past : X)
     rising-of xs (λ a b p q. h (suc a) (suc b) (omega arith) (omega arith)),
   )
 
-  no-repeat : (l : List X) → RisesAt l → (p q : ℕ) → p < length l → q < length l → getD l p past ≡ getD l q past → p ≡ q
-  no-repeat l rise p q h k e =
+  -- no two places have the same script
+  place-once : (l : List X) → RisesAt l → (p q : ℕ) → p < length l → q < length l → scriptOf (getD l p past) ≡ scriptOf (getD l q past) → p ≡ q
+  place-once l rise p q h k e =
       elim (decLt p q) [
-        | yes a ↦ absurd (not-before-self (subst (λ (t : X). Earlier t (getD l q past)) e (rise p q a k)))
+        | yes a ↦ absurd (not-before-self (subst (λ (s : List ℕ). Before s (scriptOf (getD l q past))) e (rise p q a k)))
         | no a ↦
             elim (decLt q p) [
-              | yes b ↦ absurd (not-before-self (subst (λ (t : X). Earlier t (getD l p past)) (sym e) (rise q p b h)))
+              | yes b ↦ absurd (not-before-self (subst (λ (s : List ℕ). Before s (scriptOf (getD l p past))) (sym e) (rise q p b h)))
               | no b ↦ omega arith
             ]
       ]
@@ -54,7 +56,7 @@ module _ {X : Type 0} (Is : X → Type 0) (scriptOf : X → List ℕ) (past : X)
       record {
         gives = λ q h. sound (getD l q past) (in-getD past l q h);
         numbered = λ x d. place-of past l (complete x d);
-        once = no-repeat l rise;
+        once = λ p q h k e. place-once l rise p q h k (ap scriptOf e);
         earlier = rise;
       }
 
@@ -72,6 +74,18 @@ module _ (g : Grammar) (w : List ℕ) where
   -- ---- demand 3: the readings, the quiet one among them
   pub readings-numbered : NumbersReadings g w (readings g w)
   readings-numbered = numbers-of (Reads g w) spelling quiet (readings g w) (readings-sound g w) (readings-complete g w) (readings-rising g w)
+
+  -- a script has a number exactly when it is a reading's, and one only
+  pub number-of : (s : List ℕ) → IsReading g w s → (q : ℕ) × NumberOf g w s q
+  number-of s p =
+      let n = readings-numbered .numbered (p .reading) (p .reads) in
+      (n .0, record { below = n .1; spelt = ap spelling (n .2) ∙ p .spelt })
+
+  pub of-number : (s : List ℕ) (q : ℕ) → NumberOf g w s q → IsReading g w s
+  of-number s q n = record { reading = getD (readings g w) q quiet; reads = readings-numbered .gives q (n .below); spelt = n .spelt }
+
+  pub number-once : (s : List ℕ) (p q : ℕ) → NumberOf g w s p → NumberOf g w s q → p ≡ q
+  number-once s p q a b = place-once (Reads g w) spelling quiet (readings g w) (readings-numbered .earlier) p q (a .below) (b .below) (a .spelt ∙ sym (b .spelt))
 
   -- ---- the derivations of [A, i, k]
   pub derivations-numbered : (A i k : ℕ) → NumbersDerivations g w A i k (derivations g w A i k)

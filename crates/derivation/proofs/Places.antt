@@ -3,22 +3,25 @@
 use mathlib.Core.Path.{_≡_, sym, ap, _∙_}
 use mathlib.Core.List.{List, [], _∷_, _++_}
 use Prim.Native.Nat.{ℕ, _+_, _-_, _*_, _<_}
-use native.Mathlib.Nat.{mul-le-mul-right}
+use native.Mathlib.Nat.{mul-le-mul-right, mul-zero, zero-mul}
+use native.Mathlib.Decide.{ℕ-discrete}
 use native.Mathlib.Omega.{arith}
 use lib.Dec.{eqb, lt→ltb}
 use lib.ListN.{length, getD, List·getD-append}
 use lib.Seq.{getD-append-add}
 use Rattle.bits.specs.Truth.{same}
 use Rattle.bits.specs.Sum.{sum, between}
-use Rattle.bits.proofs.Truths.{same-eq}
-use Rattle.bits.proofs.Sums.{sum-cong, sum-room, between-room}
+use Rattle.bits.proofs.Truths.{same-eq, same-other}
+use Rattle.bits.proofs.Sums.{sum-cong, sum-zero, sum-room, between-room}
 use Rattle.derivation.specs.Grammar.{Grammar, leafCount, pairCount, eventRule, pairRule}
+use Rattle.derivation.specs.Sound.{Sound}
 use Rattle.derivation.specs.Tree.{Tree, leaf, node}
 use Rattle.derivation.specs.Derivations.{join, cross, leafFits, leafAt, nodesAt, splitsAt, level, derivations, count}
 use Rattle.derivation.specs.Numbering.{none}
 use Rattle.derivation.proofs.Lists.{eq→eqb, gate-yes, length-join, join-at, cross-at, both}
+use Rattle.derivation.proofs.Sound.{leaf-once}
 use Rattle.derivation.proofs.Rising.{step}
-use Rattle.derivation.proofs.Counts.{byEvent, bySplit, byPair, length-one, no-leaves, length-split, length-pair}
+use Rattle.derivation.proofs.Counts.{byEvent, bySplit, byPair, length-one, no-leaves, length-split, length-pair, count-more}
 
 module _ (g : Grammar) (w : List ℕ) where
   -- ---- the derivation by event rule r
@@ -46,6 +49,23 @@ module _ (g : Grammar) (w : List ℕ) where
         rw (step g w A i (i + 1), e)
         (List·getD-append (join (leafCount g) f) (join (pairCount g) (splitsAt g (derivations g w) A i (i + 1))) none (sum r (λ s. length (f s)) + 0) l
         ∙ join-at none (leafCount g) f r 0 rule event-room ∙ event-at)
+
+    -- no other event rule of a sound grammar turns A into that event, so it is the first of them
+    pub leaf-first : Sound g → getD (derivations g w A i (i + 1)) 0 none ≡ leaf r (i + 1)
+    unfolding byEvent
+    leaf-first o = ap (λ (q : ℕ). getD (derivations g w A i (i + 1)) q none) (sym (sum-zero r _ none-before)) ∙ leaf-at
+      where
+        same-leaf : (s : ℕ) → eventRule g s .event ≡ getD w i 0 → eventRule g s .symbol ≡ A → eventRule g s ≡ eventRule g r
+        same-leaf s e a = λ x. record { symbol = (a ∙ sym symbol) x; event = (e ∙ sym event) x }
+
+        none-before : (s : ℕ) → s < r → byEvent g w A i s ≡ 0
+        none-before s l = elim (ℕ-discrete (eventRule g s .event) (getD w i 0)) [
+          | no e ↦ rw (same-other (eventRule g s .event) (getD w i 0) e) (zero-mul _)
+          | yes e ↦ elim (ℕ-discrete (eventRule g s .symbol) A) [
+            | no a ↦ rw (same-other (eventRule g s .symbol) A a) (mul-zero _)
+            | yes a ↦ absurd (leaf-once g o s r l rule (same-leaf s e a))
+          ]
+        ]
 
   -- ---- number m of those by pair rule b and the split j
   module _ (A i k b j : ℕ) (rule : b < pairCount g) (after : i < j) (before : j < k) where
@@ -81,15 +101,22 @@ module _ (g : Grammar) (w : List ℕ) where
         ∙ join-at none (pairCount g) S b (between i j (bySplit g w A i k b) + m) rule o ∙ split-in m h)
 
     -- from the left part's number x and the right part's number y
-    pub node-at : (x y : ℕ) → pairRule g b .symbol ≡ A → x < count g w (pairRule g b .left) i j → y < count g w (pairRule g b .right) j k
-        → getD (derivations g w A i k)
-        (sum b (byPair g w A i k) + (between i j (bySplit g w A i k b) + (x * count g w (pairRule g b .right) j k + y))) none
-        ≡ node (leafCount g + b) j (getD (derivations g w (pairRule g b .left) i j) x none) (getD (derivations g w (pairRule g b .right) j k) y none)
-    unfolding nodesAt count bySplit
-    node-at x y e hx hy =
-        let p = pairRule g b in
-        let R : ℕ = count g w (p .right) j k in
-        let m : x * R + y < bySplit g w A i k b j = rw (same-eq (p .symbol) A e) (omega (arith, mul-le-mul-right R hx)) in
-        split-place (x * R + y) m
-        ∙ rw (gate-yes (eqb (p .symbol) A) (cross (node (leafCount g + b) j) (derivations g w (p .left) i j) (derivations g w (p .right) j k)) (eq→eqb (p .symbol) A e))
-        (cross-at none (node (leafCount g + b) j) (derivations g w (p .left) i j) (derivations g w (p .right) j k) x y hx hy)
+    module _ (x y : ℕ) (e : pairRule g b .symbol ≡ A) (hx : x < count g w (pairRule g b .left) i j) (hy : y < count g w (pairRule g b .right) j k) where
+      abbrev among : ℕ
+      among = x * count g w (pairRule g b .right) j k + y
+
+      node-in : among < bySplit g w A i k b j
+      unfolding bySplit
+      node-in = rw (same-eq (pairRule g b .symbol) A e) (omega (arith, mul-le-mul-right (count g w (pairRule g b .right) j k) hx))
+
+      pub node-at : getD (derivations g w A i k) (sum b (byPair g w A i k) + (between i j (bySplit g w A i k b) + among)) none
+          ≡ node (leafCount g + b) j (getD (derivations g w (pairRule g b .left) i j) x none) (getD (derivations g w (pairRule g b .right) j k) y none)
+      unfolding nodesAt count
+      node-at =
+          let p = pairRule g b in
+          split-place among node-in
+          ∙ rw (gate-yes (eqb (p .symbol) A) (cross (node (leafCount g + b) j) (derivations g w (p .left) i j) (derivations g w (p .right) j k)) (eq→eqb (p .symbol) A e))
+          (cross-at none (node (leafCount g + b) j) (derivations g w (p .left) i j) (derivations g w (p .right) j k) x y hx hy)
+
+      pub node-room : sum b (byPair g w A i k) + (between i j (bySplit g w A i k b) + among) < count g w A i k
+      node-room = rw (count-more g w A i k (omega arith)) (sum-room (pairCount g) (byPair g w A i k) b _ rule (pair-room among node-in))

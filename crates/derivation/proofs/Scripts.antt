@@ -1,12 +1,12 @@
 -- Scripts: how long one is, and that it is the script of one derivation only.
 -- Assumes nothing.
-use mathlib.Core.Path.{_≡_, sym, _∙_}
+use mathlib.Core.Path.{_≡_, sym, ap, _∙_}
 use mathlib.Core.List.{List, [], _++_, append-assoc, append-nil, head-eq-of-cons-eq, tail-eq-of-cons-eq}
 use Prim.Native.Nat.{ℕ, _+_, _-_, _*_}
 use native.Mathlib.Omega.{arith}
 use lib.ListN.{length, length-append}
 use Rattle.derivation.specs.Grammar.{Grammar, leafCount, pairRule}
-use Rattle.derivation.specs.Tree.{Tree, leaf, node, Derives, script, scriptWords}
+use Rattle.derivation.specs.Tree.{Tree, leaf, node, Derives, script, scriptWords, Spells}
 
 module _ (g : Grammar) (w : List ℕ) where
   -- how long a script is
@@ -23,6 +23,9 @@ module _ (g : Grammar) (w : List ℕ) where
 
   pub script-length : (A i k : ℕ) (t : Tree) → Derives g w A i k t → length (script t) ≡ scriptWords (k - i)
   script-length A i k t d = omega (arith, script-words A i k t d)
+
+  pub spells-length : (A i k : ℕ) (s : List ℕ) → Spells g w A i k s → length s ≡ scriptWords (k - i)
+  spells-length A i k s p = sym (ap length (p .spelt)) ∙ script-length A i k (p .tree) (p .derives)
 
   -- what follows a script cannot change where it ends or what it says
   script-cut : (A i k B x y : ℕ) (t u : Tree) (p q : List ℕ) → Derives g w A i k t → Derives g w B x y u

@@ -3,9 +3,10 @@
 -- (`derivations-numbered`, `readings-numbered`, `numbers-only`), and `known` is the only number with `Tells g w A i k` (`known-tells`,
 -- `tells-only`).
 -- Assumes nothing.
+use mathlib.Core.Path.{_≡_}
 use mathlib.Core.Bool.{Bool, true, false, _&&_}
 use mathlib.Core.List.{List, [], _∷_, _++_, map}
-use Prim.Native.Nat.{ℕ, zero, suc, _+_, _-_, min}
+use Prim.Native.Nat.{ℕ, zero, suc, _+_, _-_, _<_, min}
 use lib.Dec.{eqb, ltb}
 use lib.ListN.{length, getD}
 use Rattle.derivation.specs.Grammar.{Grammar, leafCount, pairCount, eventRule, pairRule}
@@ -78,6 +79,11 @@ readings g w = gate (quietFits g w) (quiet ∷ []) ++ map derived (derivations g
 
 unfoldable pub scripts : Grammar → List ℕ → List (List ℕ)
 scripts g w = map spelling (readings g w)
+
+-- s is the script of reading number q
+pub record NumberOf (g : Grammar) (w s : List ℕ) (q : ℕ) : Type 0 where
+  pub below : q < length (readings g w)
+  pub spelt : spelling (getD (readings g w) q quiet) ≡ s
 
 -- ---- how many
 

@@ -56,14 +56,17 @@ module _ (g : Grammar) (w : List ℕ) (A i k : ℕ) where
   rejoin m s h l = let eq : 2 + (m - 2) ≡ m = omega arith in ap (λ (x : List ℕ). left-words m s ++ x) (take-all (length s - m) (drop m s) (simp length-drop (omega arith))
       ∙ rw eq at (sym (drop-drop (m - 2) 2 s))) ∙ take-append-drop (m - 2) (drop 2 s)
 
+  script-node : (s : List ℕ) (m : ℕ) (t u : Tree) → length s ≡ scriptWords (k - i) → m ≡ 4 * (getD s 1 0 - i) → i < getD s 1 0 → getD s 1 0 < k
+      → script t ≡ left-words m s → script u ≡ right-words m s → script (node (getD s 0 0) (getD s 1 0) t u) ≡ s
+  unfolding script
+  script-node s m t u l e a b p q = ap (λ (x : List ℕ). getD s 0 0 ∷ getD s 1 0 ∷ x) (rw (p, q) (rejoin m s (omega arith) (omega arith))) ∙ sym (two s (omega arith))
+
   pub spells-node : (s : List ℕ) (m : ℕ) → length s ≡ scriptWords (k - i) → m ≡ 4 * (getD s 1 0 - i) → i < getD s 1 0 → getD s 1 0 < k
       → Parts g w A i k (getD s 0 0) (getD s 1 0) (left-words m s) (right-words m s) → Spells g w A i k s
-  unfolding script
   spells-node s m l e a b p = record {
     tree = node (getD s 0 0) (getD s 1 0) (p .first .tree) (p .second .tree);
     derives = (p .root, p .first .derives, p .second .derives);
-    spelt = ap (λ (x : List ℕ). getD s 0 0 ∷ getD s 1 0 ∷ x) (rw (p .first .spelt, p .second .spelt) (rejoin m s (omega arith) (omega arith)))
-        ∙ sym (two s (omega arith));
+    spelt = script-node s m (p .first .tree) (p .second .tree) l e a b (p .first .spelt) (p .second .spelt);
   }
 
   parts-of : (t : Tree) (s : List ℕ) → Derives g w A i k t → script t ≡ s → (k ≡ i + 1 → ⊥)
@@ -99,6 +102,11 @@ module _ (g : Grammar) (w : List ℕ) (A i k : ℕ) (s : List ℕ) (r j : ℕ) (
 
   pub node-spells : length s ≡ scriptWords (k - i) → Parts g w A i k r j (left-words (4 * (j - i)) s) (right-words (4 * (j - i)) s) → Spells g w A i k s
   node-spells l p = let q = p .root in spells-node g w A i k s (4 * (j - i)) l (rw ej) (rw ej at (q .after)) (rw ej at (q .before)) (rw (← er, ← ej) p)
+
+  pub node-script : (t u : Tree) → length s ≡ scriptWords (k - i) → i < j → j < k
+      → script t ≡ left-words (4 * (j - i)) s → script u ≡ right-words (4 * (j - i)) s → script (node r j t u) ≡ s
+  node-script t u l a b p q =
+      rw (er, ej) (script-node g w A i k s (4 * (getD s 1 0 - i)) t u l refl (rw ej at a) (rw ej at b) (rw ej at p) (rw ej at q))
 
 -- the two parts are shorter stretches, and have the words of theirs
 module _ (i j k : ℕ) (a : i < j) (b : j < k) where

@@ -23,16 +23,13 @@ pub below : (a b r : ℕ) → held a ≡ held b → r < limit → r < a → r < 
 below a b r e h l = omega arith
 
 -- sums of terms that are the same once held
+pub held-plus : (a b c d : ℕ) → held a ≡ held c → held b ≡ held d → held (a + b) ≡ held (c + d)
+held-plus a b c d p q = omega arith
+
 pub held-sum : (n : ℕ) (f h : ℕ → ℕ) → ((x : ℕ) → x < n → held (f x) ≡ held (h x)) → held (sum n f) ≡ held (sum n h)
 unfolding sum
 held-sum zero f h e = refl
-held-sum (suc n) f h e =
-    let a : held (sum n f) ≡ held (sum n h) = held-sum n f h (λ x l. e x (le-step l)) in
-    let b : held (f n) ≡ held (h n) = e n (lt-suc-self n) in
-    joined (sum n f) (f n) (sum n h) (h n) a b
-  where
-    joined : (a b c d : ℕ) → held a ≡ held c → held b ≡ held d → held (a + b) ≡ held (c + d)
-    joined a b c d p q = omega arith
+held-sum (suc n) f h e = held-plus (sum n f) (f n) (sum n h) (h n) (held-sum n f h (λ x l. e x (le-step l))) (e n (lt-suc-self n))
 
 pub held-between : (i k : ℕ) (f h : ℕ → ℕ) → ((j : ℕ) → i < j → j < k → held (f j) ≡ held (h j)) → held (between i k f) ≡ held (between i k h)
 unfolding between

@@ -1,5 +1,5 @@
 // The count table: how many derivations each symbol has over each stretch, each cell from the cells of the shorter stretches inside it.
-mod numbers; // numbers held at the limit
+pub mod numbers; // numbers held at the limit
 mod splits; // the words of a table, and what they say of a stretch in two parts
 mod fill; // cells and columns
 
