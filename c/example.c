@@ -1,4 +1,4 @@
-/* All five services on CHAIN and the record 7 7 7, and on CHAIN in version 2 with the flag 1 and a record without events; and the test of
+/* All six services on CHAIN and the record 7 7 7, and on CHAIN in version 2 with the flag 1 and a record without events; and the test of
    CHAIN with its event rule twice, which names rule 1, and of CHAIN with a second symbol that a rule names and none can finish. What is
    written is the specification's. */
 #include "reader.h"
@@ -22,8 +22,8 @@ static void test(const uint8_t *image, size_t length)
 static void read_record(const uint8_t *image, size_t length, size_t n)
 {
     uint64_t chart[6], items, firings;
-    uint32_t table[6], total;
-    uint16_t script[10] = {0}, rule;
+    uint32_t table[6], total, reading;
+    uint16_t script[11] = {0}, rule;
     size_t words = n == 0 ? 0 : 2 * (2 * n - 1);
     bool admitted, yes;
     unsigned number = reader_judge(image, length, events, n, chart, 6, &rule, &admitted, &items, &firings);
@@ -39,6 +39,10 @@ static void read_record(const uint8_t *image, size_t length, size_t n)
     }
     number = reader_check(image, length, events, n, script, words, &rule, &yes);
     printf("check %u: %u %d\n", number, rule, yes);
+    number = reader_number(image, length, events, n, script, words, table, 6, &rule, &reading);
+    printf("number %u: %u %u\n", number, rule, reading);
+    number = reader_number(image, length, events, n, script, words + 1, table, 6, &rule, &reading);
+    printf("number %u: %u %u\n", number, rule, reading);
 }
 
 int main(void)

@@ -6,6 +6,7 @@ ghost use Rattle.chart.specs.Judge.{JudgeIs};
 ghost use Rattle.readings.specs.Count.{CountIs};
 ghost use Rattle.readings.specs.Reading.{ReadingIs};
 ghost use Rattle.readings.specs.Check.{CheckIs};
+ghost use Rattle.readings.specs.Number.{NumberIs};
 
 // Tests a grammar image.
 #[no_mangle]
@@ -102,4 +103,23 @@ pub extern "C" fn reader_check(
     *rule = checked.rule;
     *yes = checked.yes;
     checked.number
+}
+
+// Finds the number of a script.
+#[no_mangle]
+pub extern "C" fn reader_number(
+    image: &[u8],
+    events: &[u16],
+    script: &[u16],
+    table: &mut [u32],
+    rule: &mut u16,
+    reading: &mut u32,
+) -> u8
+    ensures { λ n. ⌜ NumberIs (now (image .entry)) (now (events .entry)) (now (script .entry)) (now (table .entry))
+        (record { number = n; rule = now (rule .exit); reading = now (reading .exit) }) (now (table .exit)) ⌝ }
+{
+    let found = readings::number(image, events, script, table);
+    *rule = found.rule;
+    *reading = found.reading;
+    found.number
 }

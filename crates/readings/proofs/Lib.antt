@@ -1,3 +1,4 @@
 pub mod Refuses
 pub mod Only
 pub mod Numbered
+pub mod Undone

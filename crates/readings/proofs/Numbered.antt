@@ -1,27 +1,24 @@
 -- Demand 3 holds of the service `reading`, and the service `check` says yes to what it wrote.
 -- Assumes nothing.
 use mathlib.Core.Path.{_≡_, refl, sym, ap, _∙_, subst, subst₂}
-use mathlib.Core.Logic.{inl, ⊎-elim}
+use mathlib.Core.Logic.{inl}
 use mathlib.Core.Bool.{Bool, true, false}
 use mathlib.Core.List.{List}
-use Prim.Native.Nat.{ℕ, _≤_, _<_}
-use native.Mathlib.Nat.{eq-or-lt-of-le}
+use Prim.Native.Nat.{ℕ, _<_}
 use native.Mathlib.Omega.{arith}
-use lib.ListN.{length, getD, take}
+use lib.ListN.{length, take}
 use lib.Seq.{take-at}
 use Rattle.bits.specs.Truth.{Decides}
 use Rattle.derivation.specs.Order.{Before}
 use Rattle.derivation.specs.Tree.{scriptWords}
-use Rattle.derivation.specs.Reading.{quiet, spelling, IsReading}
-use Rattle.derivation.specs.Derivations.{readings}
-use Rattle.derivation.proofs.Orders.{not-before-self}
-use Rattle.derivation.proofs.Numbering.{readings-numbered}
+use Rattle.derivation.specs.Reading.{IsReading}
+use Rattle.derivation.specs.Derivations.{NumberOf}
+use Rattle.derivation.proofs.Numbering.{readings-numbered, number-of, of-number, number-once}
 use Rattle.derivation.proofs.Readings.{spelling-length}
 use Rattle.layout.specs.Layout.{decode}
 use Rattle.image.specs.Refusal.{First}
 use Rattle.image.proofs.Refusals.{none, pass, first-only, past-zero, reached, passed}
 use Rattle.table.specs.Table.{limit}
-use Rattle.bits.proofs.Truths.{lt-or-ge}
 use Rattle.readings.specs.declared.Read.{Read}
 use Rattle.readings.specs.declared.Checked.{Checked}
 use Rattle.readings.specs.Count.{howMany}
@@ -31,7 +28,7 @@ use Rattle.readings.specs.Demand.{Gave, written, OneToOne}
 use Rattle.readings.proofs.Refuses.{lent-record, number-ok}
 
 module _ (b w : List ℕ) where
-  each : (k : ℕ) (table room : List ℕ) (r : Read) (t o : List ℕ) → First (lentRows b (length w) (length table) (length room)) 0
+  pub each : (k : ℕ) (table room : List ℕ) (r : Read) (t o : List ℕ) → First (lentRows b (length w) (length table) (length room)) 0
       → k < howMany (decode b) w → k < limit → ReadingIs b w k table room r t o → r .number ≡ 0
   each k table room r t o h l m p =
       first-only (p .number)
@@ -43,24 +40,26 @@ module _ (b w : List ℕ) where
         reached (lentRows b (length w) (length (a .table)) (length (a .room))) (numberRows k (howMany (decode b) w)) 0 (omega arith)
         (rw (a .success) at (a .is .number))
 
-    below : k < howMany (decode b) w
-    below =
+    bounds : (k < howMany (decode b) w) × (k < limit)
+    bounds =
         number-ok k _ 0 refl
         (passed (lentRows b (length w) (length (a .table)) (length (a .room))) (numberRows k (howMany (decode b) w)) 0 (omega arith) (rw (a .success) at (a .is .number)))
-        (a .small) .0
+        (a .small)
+
+    below : k < howMany (decode b) w
+    below = bounds .0
+
+    pub gave-small : k < limit
+    gave-small = bounds .1
 
     -- what is written is the script of reading k
-    written-is : written w o ≡ spelling (getD (readings (decode b) w) k quiet)
-    written-is =
+    pub gave-number : NumberOf (decode b) w (written w o) k
+    gave-number =
         let e = spelling-length (decode b) w _ (readings-numbered (decode b) w .gives k below) in
-        ap (take (scriptWords (length w))) (a .is .written (a .success)) ∙ take-at _ _ (scriptWords (length w)) e
+        record { below = below; spelt = sym (ap (take (scriptWords (length w))) (a .is .written (a .success)) ∙ take-at _ _ (scriptWords (length w)) e) }
 
     reading : IsReading (decode b) w (written w o)
-    reading = record {
-      reading = getD (readings (decode b) w) k quiet;
-      reads = readings-numbered (decode b) w .gives k below;
-      spelt = sym written-is;
-    }
+    reading = of-number (decode b) w (written w o) k gave-number
 
     -- the check of what is written says yes
     pub written-checked : (c : Checked) → CheckIs b w (written w o) c → (c .number ≡ 0) × (c .yes ≡ true)
@@ -74,21 +73,14 @@ module _ (b w : List ℕ) where
 
   earlier : (k m : ℕ) (o v : List ℕ) → k < m → Gave b w k o → Gave b w m v → Before (written w o) (written w v)
   earlier k m o v h p q =
-      subst₂ Before (sym (written-is k o p)) (sym (written-is m v q)) (readings-numbered (decode b) w .earlier k m h (below m v q))
+      let n = gave-number m v q in
+      subst₂ Before (gave-number k o p .spelt) (n .spelt) (readings-numbered (decode b) w .earlier k m h (n .below))
 
-  -- of two numbers one would be before itself
   once : (k m : ℕ) (o v : List ℕ) → Gave b w k o → Gave b w m v → written w o ≡ written w v → k ≡ m
-  once k m o v p q e =
-      ⊎-elim
-      (λ (l : k < m). absurd (not-before-self (subst (Before (written w o)) (sym e) (earlier k m o v l p q))))
-      (λ (l : m ≤ k).
-      ⊎-elim (λ (s : m ≡ k). sym s) (λ (s : m < k). absurd (not-before-self (subst (Before (written w v)) e (earlier m k v o s q p)))) (eq-or-lt-of-le l))
-      (lt-or-ge k m)
+  once k m o v p q e = number-once (decode b) w (written w v) k m (subst (λ (s : List ℕ). NumberOf (decode b) w s k) e (gave-number k o p)) (gave-number m v q)
 
   every : (s : List ℕ) → IsReading (decode b) w s → (k : ℕ) × ((k < howMany (decode b) w) × ((o : List ℕ) → Gave b w k o → written w o ≡ s))
-  every s d =
-      let a = readings-numbered (decode b) w .numbered (d .reading) (d .reads) in
-      (a .0, (a .1, λ o p. written-is (a .0) o p ∙ ap spelling (a .2) ∙ d .spelt))
+  every s d = let n = number-of (decode b) w s d in (n .0, (n .1 .below, λ o p. sym (gave-number (n .0) o p .spelt) ∙ n .1 .spelt))
 
   pub one-to-one : OneToOne b w
   one-to-one = record { each = each; reading = reading; once = once; earlier = earlier; every = every }

@@ -7,6 +7,7 @@ use Prim.Native.Nat.{ℕ, _<_}
 use native.Mathlib.Decide.{ℕ-discrete}
 use Rattle.bits.proofs.Truths.{decides-only}
 use Rattle.derivation.specs.Reading.{IsReading}
+use Rattle.derivation.proofs.Numbering.{number-once}
 use Rattle.layout.specs.Layout.{decode}
 use Rattle.image.proofs.Refusals.{first-only}
 use Rattle.image.proofs.Named.{names-same}
@@ -14,10 +15,12 @@ use Rattle.table.proofs.Tables.{filled-only}
 use Rattle.readings.specs.declared.Counted.{Counted}
 use Rattle.readings.specs.declared.Read.{Read}
 use Rattle.readings.specs.declared.Checked.{Checked}
+use Rattle.readings.specs.declared.Found.{Found}
 use Rattle.readings.specs.Count.{howMany, CountIs}
 use Rattle.readings.specs.Reading.{numberRows, Fills, ReadingIs}
 use Rattle.readings.specs.Check.{CheckIs}
-use Rattle.readings.proofs.Refuses.{count-ok, lent-ok, lent-past}
+use Rattle.readings.specs.Number.{scriptRows, NumberIs}
+use Rattle.readings.proofs.Refuses.{count-ok, lent-ok, early-past, count-early, lent-early}
 
 counted-eq : (r s : Counted) → r .number ≡ s .number → r .rule ≡ s .rule → r .total ≡ s .total → r ≡ s
 counted-eq r s e m f = λ i. record { number = e i; rule = m i; total = f i }
@@ -27,6 +30,9 @@ read-eq r s e m = λ i. record { number = e i; rule = m i }
 
 checked-eq : (r s : Checked) → r .number ≡ s .number → r .rule ≡ s .rule → r .yes ≡ s .yes → r ≡ s
 checked-eq r s e m f = λ i. record { number = e i; rule = m i; yes = f i }
+
+found-eq : (r s : Found) → r .number ≡ s .number → r .rule ≡ s .rule → r .reading ≡ s .reading → r ≡ s
+found-eq r s e m f = λ i. record { number = e i; rule = m i; reading = f i }
 
 pub count-only : (b w before : List ℕ) (r s : Counted) (t u : List ℕ) → CountIs b w before r t → CountIs b w before s u → (r ≡ s) × (t ≡ u)
 count-only b w before r s t u p q = go (ℕ-discrete (r .number) 0)
@@ -67,7 +73,7 @@ reading-only b w k table room r s t u o v p q = (read-eq r s e (names-same e (p 
 
     -- a reading that gets as far as the table has an image with a symbol
     some : Fills (r .number) → 0 < decode b .symbols
-    some h = lent-ok b _ _ _ 0 refl (lent-past b _ _ _ (numberRows k (howMany (decode b) w)) (r .number) h (p .number)) .count .image .sound .range .some
+    some h = lent-ok b _ _ _ 0 refl (early-past _ (lent-early b _ _ _) (numberRows k (howMany (decode b) w)) (r .number) h (p .number)) .count .image .sound .range .some
 
     tables : Dec (Fills (r .number)) → t ≡ u
     tables (yes h) = filled-only (decode b) w table t u (some h) (p .filled h) (q .filled (subst Fills e h))
@@ -89,3 +95,20 @@ check-only b w s r t p q = go (ℕ-discrete (r .number) 0)
     go : Dec (r .number ≡ 0) → r ≡ t
     go (yes z) = checked-eq r t e m (decides-only (IsReading (decode b) w s) (r .yes) (t .yes) (p .answered z) (q .answered (sym e ∙ z)))
     go (no z) = checked-eq r t e m (p .refused z ∙ sym (q .refused (λ f. z (e ∙ f))))
+
+pub number-only : (b w s table : List ℕ) (r x : Found) (t u : List ℕ) → NumberIs b w s table r t → NumberIs b w s table x u → (r ≡ x) × (t ≡ u)
+number-only b w s table r x t u p q = (found-eq r x e (names-same e (p .rule) (q .rule)) (readings (ℕ-discrete (r .number) 0)), tables (fills? (r .number)))
+  where
+    e : r .number ≡ x .number
+    e = first-only (p .number) (q .number)
+
+    some : Fills (r .number) → 0 < decode b .symbols
+    some h = count-ok b _ _ 0 refl (early-past _ (count-early b _ _) (scriptRows (decode b) w s) (r .number) h (p .number)) .image .sound .range .some
+
+    tables : Dec (Fills (r .number)) → t ≡ u
+    tables (yes h) = filled-only (decode b) w table t u (some h) (p .filled h) (q .filled (subst Fills e h))
+    tables (no h) = p .kept h ∙ sym (q .kept (λ f. h (subst Fills (sym e) f)))
+
+    readings : Dec (r .number ≡ 0) → r .reading ≡ x .reading
+    readings (yes z) = number-once (decode b) w s _ _ (p .answered z) (q .answered (sym e ∙ z))
+    readings (no z) = p .refused z ∙ sym (q .refused (λ f. z (e ∙ f)))

@@ -1,23 +1,28 @@
--- The refusal tables of count and reading: what the answer 0 gives, and which numbers the refusals 12 and 13 leave.
+-- The refusal tables of count, reading and number: what the answer 0 gives, and which numbers and scripts the refusals 12 and 13 leave.
 -- Assumes nothing.
-use mathlib.Core.Path.{_≡_, refl, subst⁻¹}
+use mathlib.Core.Path.{_≡_, refl, subst, subst⁻¹}
 use mathlib.Core.Logic.{_⊎_, inl, inr, _≢_, ⊎-elim}
-use mathlib.Core.List.{List, _++_}
+use mathlib.Core.List.{List, [], _∷_, _++_}
 use Prim.Native.Nat.{ℕ, _≤_, _<_}
 use native.Mathlib.Decide.{decLt}
 use native.Mathlib.Omega.{arith}
 use Rattle.bits.proofs.Each.{all-front, all-back}
 use Rattle.derivation.specs.Grammar.{Grammar}
 use Rattle.derivation.specs.Tree.{scriptWords}
+use Rattle.derivation.specs.Reading.{IsReading}
+use Rattle.derivation.specs.Derivations.{NumberOf}
+use Rattle.derivation.proofs.Numbering.{of-number, number-once}
 use Rattle.layout.specs.Layout.{decode}
-use Rattle.image.specs.Refusal.{Row, FirstOf, First}
+use Rattle.image.specs.Refusal.{Row, _unless_, FirstOf, First}
 use Rattle.image.specs.Image.{mostEvents, recordRows, Names, Accepted}
 use Rattle.image.proofs.Refusals.{demand, AllHold, Lacks, none, fail, pass, all-hold, reached, never}
 use Rattle.image.proofs.Named.{names-before, names-behind}
 use Rattle.image.proofs.Images.{record-holding}
 use Rattle.table.specs.Table.{limit, held, tableWords}
+use Rattle.rank.specs.Rank.{HeldOf}
 use Rattle.readings.specs.Count.{tableRows, countRows}
 use Rattle.readings.specs.Reading.{roomRows, Beyond, numberRows, lentRows, Fills}
+use Rattle.readings.specs.Number.{scriptRows}
 
 -- ---- what the answer 0 gives
 pub record CountOk (b : List ℕ) (n size : ℕ) : Type 0 where
@@ -47,18 +52,30 @@ module _ (b : List ℕ) (n size : ℕ) where
     pub lent-record : First (lentRows b n size space) 0 → First (recordRows b n) 0
     lent-record p = reached (recordRows b n) (tableRows b n size) 0 (omega arith) (reached (countRows b n size) (roomRows n space) 0 (omega arith) p)
 
-    -- none of these refusals leaves a table filled, and one that does comes from behind them
-    fills-lack : (r : ℕ) → Fills r → Lacks r (lentRows b n size space)
-    fills-lack r = ⊎-elim (lacks 0 (omega arith)) (⊎-elim (lacks 12 (omega arith)) (lacks 13 (omega arith)))
-      where
-        lacks : (m : ℕ) → Lacks m (lentRows b n size space) → r ≡ m → Lacks r (lentRows b n size space)
-        lacks m l e = subst⁻¹ (λ (k : ℕ). Lacks k (lentRows b n size space)) e l
+-- ---- refusals before the table is filled: after none of them it is, and an answer after which it is comes from behind them
+pub record Early (rows : List Row) : Type 0 where
+  pub zero : Lacks 0 rows
+  pub twelve : Lacks 12 rows
+  pub thirteen : Lacks 13 rows
 
-    pub lent-keeps : (r : ℕ) → r ≢ 0 → First (lentRows b n size space) r → Fills r → ⊥
-    lent-keeps r z p h = never (lentRows b n size space) r z (fills-lack r h) p
+module _ (rows : List Row) (e : Early rows) where
+  fills-lack : (r : ℕ) → Fills r → Lacks r rows
+  fills-lack r = ⊎-elim (lacks 0 (e .zero)) (⊎-elim (lacks 12 (e .twelve)) (lacks 13 (e .thirteen)))
+    where
+      lacks : (m : ℕ) → Lacks m rows → r ≡ m → Lacks r rows
+      lacks m l q = subst⁻¹ (λ (k : ℕ). Lacks k rows) q l
 
-    pub lent-past : (more : List Row) (r : ℕ) → Fills r → First (lentRows b n size space ++ more) r → First (lentRows b n size space) 0
-    lent-past more r h p = reached (lentRows b n size space) more r (fills-lack r h) p
+  pub early-keeps : (r : ℕ) → r ≢ 0 → First rows r → Fills r → ⊥
+  early-keeps r z p h = never rows r z (fills-lack r h) p
+
+  pub early-past : (more : List Row) (r : ℕ) → Fills r → First (rows ++ more) r → First rows 0
+  early-past more r h p = reached rows more r (fills-lack r h) p
+
+pub count-early : (b : List ℕ) (n size : ℕ) → Early (countRows b n size)
+count-early b n size = record { zero = omega arith; twelve = omega arith; thirteen = omega arith }
+
+pub lent-early : (b : List ℕ) (n size space : ℕ) → Early (lentRows b n size space)
+lent-early b n size space = record { zero = omega arith; twelve = omega arith; thirteen = omega arith }
 
 -- ---- refusals 12 and 13, from the number of readings held at the limit
 module _ (k t m : ℕ) (e : t ≡ held m) where
@@ -74,15 +91,37 @@ module _ (k t m : ℕ) (e : t ≡ held m) where
   pub twelve : (k ≡ limit → ⊥) → k ≤ limit → t ≤ k → First (numberRows k m) 12
   twelve a l b = fail (⊎-elim (λ (h : k < m). a (omega arith)) (λ (y : Beyond k m). a (y .last)))
 
-pub number-fills : (k m r : ℕ) → First (numberRows k m) r → Fills r
-number-fills k m r p = go (p .is)
+-- ---- refusals 12 and 13 of a script, from its number held at the limit
+pub number-passes : (g : Grammar) (w s : List ℕ) (x : ℕ) → NumberOf g w s x → x < limit → First (scriptRows g w s) 0
+number-passes g w s x n l = pass (of-number g w s x n) (pass (λ q m. omega (arith, number-once g w s x q n m)) none)
+
+module _ (g : Grammar) (w s : List ℕ) where
+  pub no-reading : (IsReading g w s → ⊥) → First (scriptRows g w s) 12
+  no-reading p = fail p
+
+  module _ (x : ℕ) (h : HeldOf (NumberOf g w s) x) where
+    pub past-limit : x ≡ limit → First (scriptRows g w s) 13
+    past-limit e = pass (of-number g w s (h .number) (h .is)) (fail (λ f. omega (arith, f (h .number) (h .is), h .shown)))
+
+    -- a held number below the limit is the number itself
+    pub is-number : (x ≡ limit → ⊥) → NumberOf g w s x
+    is-number z = subst (NumberOf g w s) (exact-number (h .number) (h .shown)) (h .is)
+      where
+        exact-number : (q : ℕ) → x ≡ held q → q ≡ x
+        exact-number q e = omega arith
+
+    pub below-limit : (x ≡ limit → ⊥) → First (scriptRows g w s) 0
+    below-limit z = number-passes g w s x (is-number z) (omega (arith, h .shown))
+
+-- ---- behind both the table is filled, and none of them names a rule
+pub late-fills : {P Q : Type 0} (r : ℕ) → First ((12 unless P) ∷ (13 unless Q) ∷ []) r → Fills r
+late-fills {P} {Q} r p = go (p .is)
   where
-    go : FirstOf (numberRows k m) r → Fills r
+    go : FirstOf ((12 unless P) ∷ (13 unless Q) ∷ []) r → Fills r
     go (inl q) = inr (inl (q .1))
     go (inr (y, inl q)) = inr (inr (q .1))
     go (inr (y, inr q)) = inl (q .1)
 
--- none of these numbers names a rule
 pub fills-name : {g : Grammar} (r : ℕ) → Fills r → Names g r 0
 fills-name r =
     ⊎-elim (λ (e : r ≡ 0). names-before (omega arith) refl)

@@ -1,4 +1,6 @@
 pub mod Count
 pub mod Reading
 pub mod Check
+pub mod Number
 pub mod Demand
+pub mod Undo

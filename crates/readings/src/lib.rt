@@ -1,9 +1,10 @@
-// The readings of a record: how many there are, reading number k, and whether a script is that of a reading.
+// The readings of a record: how many there are, reading number k, whether a script is that of a reading, and the number of one that is.
 mod refuse; // the refusals
 
 ghost use Rattle.readings.specs.Count.{CountIs};
 ghost use Rattle.readings.specs.Reading.{ReadingIs};
 ghost use Rattle.readings.specs.Check.{CheckIs};
+ghost use Rattle.readings.specs.Number.{NumberIs};
 
 // What counting answers: a refusal with 0, or 0 with the number of readings, held at the limit. The rule is that of 6 and 7, else 0.
 pub struct Counted {
@@ -23,6 +24,13 @@ pub struct Checked {
     pub number: u8,
     pub rule: u16,
     pub yes: bool,
+}
+
+// What the number of a script answers: a refusal with 0, or 0 with the number of the reading.
+pub struct Found {
+    pub number: u8,
+    pub rule: u16,
+    pub reading: u32,
 }
 
 // Counts the readings, and fills the table.
@@ -93,5 +101,42 @@ pub fn check(image: &[u8], events: &[u16], script: &[u16]) -> Checked
         number: 0,
         rule: 0,
         yes,
+    }
+}
+
+// Finds the number of the reading with this script, and fills the table.
+pub fn number(image: &[u8], events: &[u16], script: &[u16], table: &mut [u32]) -> Found
+    ensures { λ r. ⌜ NumberIs (now (image .entry)) (now (events .entry)) (now (script .entry)) (now (table .entry)) r (now (table .exit)) ⌝ }
+{
+    let n = events.len();
+    let refused = refuse::count_refusal(image, n, table.len());
+    let number = refused.number;
+    if number != 0 {
+        return Found {
+            number,
+            rule: refused.rule,
+            reading: 0,
+        };
+    }
+    table::fill_table(image, events, table);
+    if !follow::is_reading(image, events, script) {
+        return Found {
+            number: 12,
+            rule: 0,
+            reading: 0,
+        };
+    }
+    let reading = rank::rank_reading(image, events, table, script);
+    if reading == table::LIMIT {
+        return Found {
+            number: 13,
+            rule: 0,
+            reading: 0,
+        };
+    }
+    Found {
+        number: 0,
+        rule: 0,
+        reading,
     }
 }

@@ -1,4 +1,4 @@
-// The refusals of count and reading, each table the rows of the one before and more.
+// The refusals of count, with which those of reading and number begin, and what reading has behind them.
 use image::Refusal;
 ghost use mathlib.Core.Path.{_≡_};
 ghost use Prim.Native.Nat.{ℕ};

@@ -9,7 +9,7 @@ use Rattle.image.specs.Refusal.{Row, First}
 use Rattle.image.proofs.Refusals.{first-hit, past-zero}
 use Rattle.table.proofs.Tables.{counts-in}
 use Rattle.readings.specs.Reading.{lentRows}
-use Rattle.readings.proofs.Refuses.{LentOk, lent-ok, lent-keeps, number-fills, fills-name, number-ok}
+use Rattle.readings.proofs.Refuses.{LentOk, lent-ok, early-keeps, lent-early, late-fills, fills-name, number-ok}
 use borrow.Author.Needs.{needs}
 use Rattle.readings.proofs.reading.Statement.{statement}
 use Rattle.readings.proofs.reading.Tie as tie
@@ -36,7 +36,7 @@ returns c =
     record {
       number = first-hit (early s) _ (c .if1 .taken) (p .number);
       rule = p .rule;
-      filled = λ h. absurd (lent-keeps (s .args .image .now) _ _ _ _ (c .if1 .taken) (p .number) h);
+      filled = λ h. absurd (early-keeps (early s) (lent-early (s .args .image .now) _ _ _) _ (c .if1 .taken) (p .number) h);
       kept = λ _. refl;
       written = λ z. absurd (c .if1 .taken z);
       unwritten = λ _. refl;
@@ -62,9 +62,9 @@ returns-2 c =
     let p = c .before .number-refusal .ensures _ (c .before .before .total-in .ensures) in
     record {
       number = late (f .before .before) p;
-      rule = fills-name _ (number-fills _ _ _ p);
+      rule = fills-name _ (late-fills _ p);
       filled = λ _. f .fill-table .ensures;
-      kept = λ h. absurd (h (number-fills _ _ _ p));
+      kept = λ h. absurd (h (late-fills _ p));
       written = λ z. absurd (c .if2 .taken z);
       unwritten = λ _. refl;
     }
@@ -93,9 +93,9 @@ returns-3 c =
     let p = rw (c .before .before .before .before .before .if2 .left) at (n .number-refusal .ensures _ (n .before .total-in .ensures)) in
     record {
       number = late (f .before .before) p;
-      rule = fills-name _ (number-fills _ _ _ p);
+      rule = fills-name _ (late-fills _ p);
       filled = λ _. f .fill-table .ensures;
-      kept = λ h. absurd (h (number-fills _ _ _ p));
+      kept = λ h. absurd (h (late-fills _ p));
       written = λ _. c .before .before .write-reading .ensures;
       unwritten = λ z. absurd (z refl);
     }
