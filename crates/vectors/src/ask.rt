@@ -1,6 +1,6 @@
 // One number: behind the events the length of the lent table and of the lent room, two bytes each, and a number k of four bytes; and
-// behind a semicolon the words of a script, two bytes each. Written are the answers of count, reading and check, and behind those of count
-// and of reading the lent words as they are afterwards.
+// behind a semicolon the words of a script, two bytes each. Written are the answers of count, reading, check and number, and behind all but
+// those of check the lent words as they are afterwards.
 use super::ROOM;
 use super::WORDS;
 use super::digest::write_counts;
@@ -45,12 +45,33 @@ fn lend_to_reading(image: &[u8], events: &[u16], k: u32, size: usize, space: usi
     reading(image, events, k, &mut table[..size], &mut room[..space]);
 }
 
-fn check(image: &[u8], events: &[u16], text: &[u8]) {
-    let mut script = [0u16; ROOM];
-    let n = read_words(text, &mut script);
-    let checked = readings::check(image, events, &script[..n]);
+fn check(image: &[u8], events: &[u16], script: &[u16]) {
+    let checked = readings::check(image, events, script);
     write_refusal(checked.number, checked.rule);
     value(checked.yes as u64);
+}
+
+fn number(image: &[u8], events: &[u16], script: &[u16], table: &mut [u32]) {
+    let found = readings::number(image, events, script, table);
+    write_refusal(found.number, found.rule);
+    value(found.reading as u64);
+    write_counts(table);
+}
+
+fn lend_to_number(image: &[u8], events: &[u16], script: &[u16], size: usize) {
+    let mut table = [77u32; WORDS];
+    if WORDS < size {
+        return;
+    }
+    number(image, events, script, &mut table[..size]);
+}
+
+// What follows the second semicolon.
+fn run_script(image: &[u8], events: &[u16], size: usize, text: &[u8]) {
+    let mut script = [0u16; ROOM];
+    let n = read_words(text, &mut script);
+    check(image, events, &script[..n]);
+    lend_to_number(image, events, &script[..n], size);
 }
 
 // The text is what follows the events.
@@ -67,5 +88,5 @@ pub fn run(image: &[u8], events: &[u16], text: &[u8]) {
         return;
     }
     let behind = end + 1;
-    check(image, events, &text[behind..]);
+    run_script(image, events, words, &text[behind..]);
 }

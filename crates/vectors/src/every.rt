@@ -1,5 +1,5 @@
 // Every number of a record that is not too long: written are how many readings there are, how many of the scripts pass the
-// check, a number made of all their words, and the refusal of the number past the last.
+// check and have the number that they were given for, a number made of all their words, and the refusal of the number past the last.
 use super::ROOM;
 use super::WORDS;
 use super::digest::mix_script;
@@ -7,7 +7,7 @@ use lines::value;
 ghost use Prim.Native.Nat.{_+_, _*_, _≤_, _<_};
 ghost use Rattle.image.specs.Image.{mostEvents};
 
-// How many scripts passed the check, and the number made of all their words.
+// How many scripts passed the check and came back to their number, and the number made of all their words.
 pub struct Passed {
     pub yes: u64,
     pub sum: u64,
@@ -19,6 +19,19 @@ fn count(image: &[u8], events: &[u16]) -> u32 {
     counted.total
 }
 
+fn comes_back(image: &[u8], events: &[u16], script: &[u16], k: u32) -> bool {
+    let mut table = [0u32; WORDS];
+    let checked = readings::check(image, events, script);
+    if !checked.yes {
+        return false;
+    }
+    let found = readings::number(image, events, script, &mut table);
+    if found.number != 0 {
+        return false;
+    }
+    found.reading == k
+}
+
 // One number more: its script has so many words.
 fn pass(image: &[u8], events: &[u16], words: usize, k: u32, was: Passed) -> Passed
     requires { ⌜ (words ≤ 4 * mostEvents) × (was .yes < 4294967296) × (was .sum < 4294967296) ⌝ }
@@ -27,9 +40,9 @@ fn pass(image: &[u8], events: &[u16], words: usize, k: u32, was: Passed) -> Pass
     let mut table = [0u32; WORDS];
     let mut room = [0u16; ROOM];
     readings::reading(image, events, k, &mut table, &mut room);
-    let checked = readings::check(image, events, &room[..words]);
+    let back = comes_back(image, events, &room[..words], k);
     let sum = mix_script(&room[..words], was.sum);
-    if checked.yes {
+    if back {
         let yes = was.yes + 1;
         return Passed { yes, sum };
     }

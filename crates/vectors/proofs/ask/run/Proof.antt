@@ -63,17 +63,17 @@ returns c = search needs
 add-behind : tie.Need-add-behind
 add-behind c = search needs
 
-sub-check : tie.Need-sub-check
-sub-check c = search needs
+sub-run-script : tie.Need-sub-run-script
+sub-run-script c = search needs
 
-part-check-start : tie.Need-part-check-start
-part-check-start c = search needs
+part-run-script-start : tie.Need-part-run-script-start
+part-run-script-start c = search needs
 
-part-check-end : tie.Need-part-check-end
-part-check-end c = search needs
+part-run-script-end : tie.Need-part-run-script-end
+part-run-script-end c = search needs
 
-check-requires : tie.Need-check-requires
-check-requires c κs = search needs
+run-script-requires : tie.Need-run-script-requires
+run-script-requires c κs = search needs
 
 returns-2 : tie.Need-returns-2
 returns-2 c = search needs
@@ -101,8 +101,8 @@ run-spec =
     lend-to-reading-requires
     returns
     add-behind
-    sub-check
-    part-check-start
-    part-check-end
-    check-requires
+    sub-run-script
+    part-run-script-start
+    part-run-script-end
+    run-script-requires
     returns-2)

@@ -1,8 +1,8 @@
 -- The script is a part of the room.
 -- Assumes nothing.
 use mathlib.Core.Path.{sym}
-use native.Mathlib.Omega.{arith}
 use lib.Seq.{length-take-le}
+use native.Mathlib.Omega.{arith}
 use borrow.Author.Needs.{needs}
 use Rattle.vectors.proofs.every.pass.Statement.{statement}
 use Rattle.vectors.proofs.every.pass.Tie as tie
@@ -19,11 +19,11 @@ reading-requires c κs = search needs
 array-share-prefix-room : tie.Need-array-share-prefix-room
 array-share-prefix-room c = search needs
 
-slice-aggregate-check : tie.Need-slice-aggregate-check
-slice-aggregate-check c = sym (length-take-le _ _ (omega (arith, c .before .before .before .before .before .before .before .before .pre .0)))
+slice-aggregate-comes-back : tie.Need-slice-aggregate-comes-back
+slice-aggregate-comes-back c = sym (length-take-le _ _ (omega (arith, c .before .before .before .before .before .before .before .before .pre .0)))
 
-check-requires : tie.Need-check-requires
-check-requires c κs = search needs
+comes-back-requires : tie.Need-comes-back-requires
+comes-back-requires c κs = search needs
 
 array-share-prefix-room-2 : tie.Need-array-share-prefix-room-2
 array-share-prefix-room-2 c = search needs
@@ -51,8 +51,8 @@ pass-spec =
     slice-aggregate-reading-2
     reading-requires
     array-share-prefix-room
-    slice-aggregate-check
-    check-requires
+    slice-aggregate-comes-back
+    comes-back-requires
     array-share-prefix-room-2
     slice-aggregate-mix-script
     mix-script-requires

@@ -1,10 +1,10 @@
--- No more words are checked than were read.
+-- No more words are asked about than were read.
 -- Assumes nothing.
 use mathlib.Core.Path.{sym}
 use lib.Seq.{length-take-le}
 use borrow.Author.Needs.{needs}
-use Rattle.vectors.proofs.ask.check.Statement.{statement}
-use Rattle.vectors.proofs.ask.check.Tie as tie
+use Rattle.vectors.proofs.ask.run_script.Statement.{statement}
+use Rattle.vectors.proofs.ask.run_script.Tie as tie
 
 slice-aggregate-read-words : tie.Need-slice-aggregate-read-words
 slice-aggregate-read-words c = search needs
@@ -21,20 +21,20 @@ slice-aggregate-check c = sym (length-take-le _ _ (c .before .before .read-words
 check-requires : tie.Need-check-requires
 check-requires c κs = search needs
 
-write-refusal-requires : tie.Need-write-refusal-requires
-write-refusal-requires c κs = search needs
+array-share-prefix-script-2 : tie.Need-array-share-prefix-script-2
+array-share-prefix-script-2 c = search needs
 
-cast-value : tie.Need-cast-value
-cast-value c = search needs
+slice-aggregate-lend-to-number : tie.Need-slice-aggregate-lend-to-number
+slice-aggregate-lend-to-number c = sym (length-take-le _ _ (c .before .before .before .before .read-words .ensures))
 
-value-requires : tie.Need-value-requires
-value-requires c κs = search needs
+lend-to-number-requires : tie.Need-lend-to-number-requires
+lend-to-number-requires c κs = search needs
 
 returns : tie.Need-returns
 returns c = search needs
 
-pub check-spec : {M : Type 1} → statement M
-check-spec =
+pub run-script-spec : {M : Type 1} → statement M
+run-script-spec =
     tie.close
     (tie.spec
     slice-aggregate-read-words
@@ -42,7 +42,7 @@ check-spec =
     array-share-prefix-script
     slice-aggregate-check
     check-requires
-    write-refusal-requires
-    cast-value
-    value-requires
+    array-share-prefix-script-2
+    slice-aggregate-lend-to-number
+    lend-to-number-requires
     returns)
