@@ -2,6 +2,7 @@
 //! be said, so that the proved reader can be compared with it.
 #![forbid(unsafe_code)]
 
+mod answers;
 pub mod derive;
 pub mod drawn;
 pub mod examples;

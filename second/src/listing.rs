@@ -44,7 +44,7 @@ fn listing(image: &[u8], event_bytes: &[u8]) -> Result<String, Refusal> {
         _ => format!("readings {total}\n"),
     };
     for number in 0..total.min(LISTED) {
-        lines += &line(&readings.script(number));
+        lines += &line(&readings.script(number.into()));
     }
     Ok(lines)
 }

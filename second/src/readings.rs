@@ -4,14 +4,15 @@ use crate::derive::{counts, derivable, matches, Table};
 use crate::image::Grammar;
 use crate::trees::{script_words, Forest};
 use std::cell::OnceCell;
+use std::cmp::Ordering::{Equal, Greater, Less};
 
 /// Up to so many readings all are written down and sorted.
 const FEW: u64 = 2_000;
 
 /// The readings of a record, numbered.
 pub struct Readings<'a> {
-    grammar: &'a Grammar,
-    events: &'a [u16],
+    pub grammar: &'a Grammar,
+    pub events: &'a [u16],
     counts: Table<u64>,
     /// Every script in order, once one is asked for and where there are few.
     listed: OnceCell<Vec<Vec<u16>>>,
@@ -27,11 +28,11 @@ impl<'a> Readings<'a> {
         }
     }
 
-    /// The number of derivations of [a, 0, n], cut at the largest u64; none of an empty record.
-    pub fn derivations(&self, a: usize) -> u64 {
-        match self.events.len() {
+    /// The number of derivations of [a, i, k], cut at the largest u64; none of an empty stretch.
+    pub fn derivations(&self, a: usize, i: usize, k: usize) -> u64 {
+        match k - i {
             0 => 0,
-            n => self.counts.get(a, 0, n),
+            _ => self.counts.get(a, i, k),
         }
     }
 
@@ -40,7 +41,7 @@ impl<'a> Readings<'a> {
     pub fn total(&self) -> u64 {
         match self.events {
             [] => self.grammar.admits_empty.into(),
-            _ => self.derivations(0),
+            _ => self.derivations(0, 0, self.events.len()),
         }
     }
 
@@ -50,16 +51,33 @@ impl<'a> Readings<'a> {
     }
 
     /// The script of reading `number`, which must be below the total.
-    pub fn script(&self, number: u32) -> Vec<u16> {
+    pub fn script(&self, number: u64) -> Vec<u16> {
         if self.total() > FEW {
-            return self.unranked(0, 0, self.events.len(), number.into());
+            return self.unranked(0, 0, self.events.len(), number);
         }
+        self.all()[number as usize].clone()
+    }
+
+    /// The number of the reading that the words are the script of, cut at the largest u64; none if
+    /// they aren't one's.
+    pub fn number(&self, words: &[u16]) -> Option<u64> {
+        if !is_reading(self.grammar, self.events, words) {
+            return None;
+        }
+        if self.total() > FEW {
+            return Some(self.ranked(0, 0, self.events.len(), words));
+        }
+        let place = self.all().iter().position(|script| script == words);
+        place.map(|place| place as u64)
+    }
+
+    fn all(&self) -> &[Vec<u16>] {
         let all = || listed(self.grammar, self.events);
-        self.listed.get_or_init(all)[number as usize].clone()
+        self.listed.get_or_init(all)
     }
 
     /// The script of derivation `number` of [a, i, k], found by how many come before it; `number`
-    /// must be below their count. It is only compared with counts and divided by one, and it is far
+    /// must be below their count. It is only compared with counts and divided by one, and it is
     /// below the largest u64, so that a count cut there does as well as the true one.
     ///
     /// The scripts of one stretch are equally long, and so are their left parts if the splits are
@@ -86,6 +104,36 @@ impl<'a> Readings<'a> {
             }
         }
         panic!("there is no derivation of this number");
+    }
+
+    /// How many derivations of [a, i, k] come before the one with these words, which must be the
+    /// script of one: those of an earlier rule or split, those of an earlier left part, each with
+    /// every right part, and those of an earlier right part.
+    ///
+    /// Sums and products are cut at the largest u64, and so the result is the smaller of that and
+    /// the true number, as in `counts`: exact as far as readings are numbered, and far past that.
+    pub fn ranked(&self, a: usize, i: usize, k: usize, words: &[u16]) -> u64 {
+        let root = (words[0] as usize, words[1] as usize);
+        let leaves = self.grammar.event_rules_of(a);
+        let matching = leaves.filter(|(_, rule)| matches(rule, self.events, i, k));
+        let mut before = matching.filter(|&(rule, _)| (rule, k) < root).count() as u64;
+        for (rule, pair) in self.grammar.pair_rules_of(a) {
+            for j in i + 1..k {
+                let rights = self.counts.get(pair.right, j, k);
+                let earlier = match (rule, j).cmp(&root) {
+                    Less => self.counts.get(pair.left, i, j).saturating_mul(rights),
+                    Equal => {
+                        let (left, right) = words[2..].split_at(script_words(j - i));
+                        let lefts = self.ranked(pair.left, i, j, left);
+                        let last = self.ranked(pair.right, j, k, right);
+                        lefts.saturating_mul(rights).saturating_add(last)
+                    }
+                    Greater => 0,
+                };
+                before = before.saturating_add(earlier);
+            }
+        }
+        before
     }
 }
 

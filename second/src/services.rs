@@ -1,6 +1,6 @@
-//! The five services. Each gives back a refusal's number, or 0 for success. Beside a refusal all
-//! is zero, but for the first rule at fault with 6 and 7; that is 0 with every other answer.
+//! The six services.
 
+pub use crate::answers::{Checked, Counted, Judged, Numbered, Read, Tested};
 use crate::derive::{cell, cells, derivable, firings, stretches};
 use crate::image::{decode, refuse_if, Grammar, Refusal};
 use crate::readings::{cut, is_reading, Readings};
@@ -8,44 +8,6 @@ use crate::trees::script_words;
 
 /// A record may have so many events.
 pub const MOST_EVENTS: usize = 96;
-
-#[derive(Clone, Copy, Debug, Default, PartialEq)]
-pub struct Tested {
-    pub number: u8,
-    pub rule: u16,
-    pub symbols: usize,
-    pub event_rules: usize,
-    pub pair_rules: usize,
-}
-
-#[derive(Clone, Copy, Debug, Default, PartialEq)]
-pub struct Judged {
-    pub number: u8,
-    pub rule: u16,
-    pub admitted: bool,
-    pub items: u64,
-    pub firings: u64,
-}
-
-#[derive(Clone, Copy, Debug, Default, PartialEq)]
-pub struct Counted {
-    pub number: u8,
-    pub rule: u16,
-    pub total: u32,
-}
-
-#[derive(Clone, Copy, Debug, Default, PartialEq)]
-pub struct Read {
-    pub number: u8,
-    pub rule: u16,
-}
-
-#[derive(Clone, Copy, Debug, Default, PartialEq)]
-pub struct Checked {
-    pub number: u8,
-    pub rule: u16,
-    pub yes: bool,
-}
 
 /// Tests a grammar image.
 pub fn test(image: &[u8]) -> Tested {
@@ -113,10 +75,33 @@ pub fn check(image: &[u8], events: &[u16], script: &[u16]) -> Checked {
     }
 }
 
+/// Gives the number of the reading that a script is of, and fills the count table.
+pub fn number(image: &[u8], events: &[u16], script: &[u16], table: &mut [u32]) -> Numbered {
+    match numbered(image, events, script, table) {
+        Ok(reading) => Numbered {
+            number: 0,
+            rule: 0,
+            reading,
+        },
+        Err(Refusal { number, rule }) => Numbered {
+            number,
+            rule,
+            reading: 0,
+        },
+    }
+}
+
 /// Refusals 1 to 7, 15 and 8, with which every service over a record begins.
 fn accept(image: &[u8], events: &[u16]) -> Result<Grammar, Refusal> {
     let grammar = decode(image)?;
     refuse_if(events.len() > MOST_EVENTS, 8)?;
+    Ok(grammar)
+}
+
+/// The same and 10, with which every service that fills a count table begins.
+fn accept_table(image: &[u8], events: &[u16], table: &[u32]) -> Result<Grammar, Refusal> {
+    let grammar = accept(image, events)?;
+    refuse_if(table.len() < grammar.symbols * cells(events.len()), 10)?;
     Ok(grammar)
 }
 
@@ -142,12 +127,17 @@ fn judged(image: &[u8], events: &[u16], chart: &mut [u64]) -> Result<Judged, Ref
     })
 }
 
+/// Fills the count table.
+fn filled<'a>(grammar: &'a Grammar, events: &'a [u16], table: &mut [u32]) -> Readings<'a> {
+    let readings = Readings::of(grammar, events);
+    let words = readings.table();
+    table[..words.len()].copy_from_slice(&words);
+    readings
+}
+
 fn counted(image: &[u8], events: &[u16], table: &mut [u32]) -> Result<Counted, Refusal> {
-    let grammar = accept(image, events)?;
-    let need = grammar.symbols * cells(events.len());
-    refuse_if(table.len() < need, 10)?;
-    let readings = Readings::of(&grammar, events);
-    table[..need].copy_from_slice(&readings.table());
+    let grammar = accept_table(image, events, table)?;
+    let readings = filled(&grammar, events, table);
     Ok(Counted {
         number: 0,
         rule: 0,
@@ -162,16 +152,29 @@ fn read(
     table: &mut [u32],
     script: &mut [u16],
 ) -> Result<(), Refusal> {
-    let grammar = accept(image, events)?;
-    let need = grammar.symbols * cells(events.len());
-    refuse_if(table.len() < need, 10)?;
+    let grammar = accept_table(image, events, table)?;
     let words = script_words(events.len());
     refuse_if(script.len() < words, 11)?;
-    let readings = Readings::of(&grammar, events);
-    table[..need].copy_from_slice(&readings.table());
+    let readings = filled(&grammar, events, table);
     let past_numbering = k == u32::MAX && readings.total() >= u32::MAX.into();
     refuse_if(u64::from(k) >= readings.total() && !past_numbering, 12)?;
     refuse_if(past_numbering, 13)?;
-    script[..words].copy_from_slice(&readings.script(k));
+    script[..words].copy_from_slice(&readings.script(k.into()));
     Ok(())
+}
+
+fn numbered(
+    image: &[u8],
+    events: &[u16],
+    script: &[u16],
+    table: &mut [u32],
+) -> Result<u32, Refusal> {
+    let grammar = accept_table(image, events, table)?;
+    let number = filled(&grammar, events, table).number(script);
+    let number = number.ok_or(Refusal {
+        number: 12,
+        rule: 0,
+    })?;
+    refuse_if(number >= u32::MAX.into(), 13)?;
+    Ok(number as u32)
 }

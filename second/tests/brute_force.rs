@@ -1,11 +1,13 @@
 //! What is worked out quickly, beside all derivations written down one by one.
 
+mod small;
+
 use second::derive::{counts, derivable, firings, stretches};
-use second::drawn::live_image;
 use second::examples::{binary, digits, image};
 use second::image::{decode, Grammar};
 use second::random::Random;
 use second::readings::{is_reading, listed, Readings};
+use small::small;
 
 /// The script of every derivation of [a, i, k], from the definition and nothing else.
 fn scripts(grammar: &Grammar, events: &[u16], a: usize, i: usize, k: usize) -> Vec<Vec<u16>> {
@@ -26,17 +28,6 @@ fn scripts(grammar: &Grammar, events: &[u16], a: usize, i: usize, k: usize) -> V
         }
     }
     scripts
-}
-
-/// A grammar of few symbols and events, and a record of at most six events.
-fn small(random: &mut Random) -> (Grammar, Vec<u16>) {
-    let symbols = random.within(1, 3);
-    let kinds = &[0, 1][..random.within(1, 2)];
-    let (event_rules, pair_rules) = (random.within(1, 5), random.within(1, 8));
-    let image = live_image(random, symbols, kinds, event_rules, pair_rules);
-    let n = random.within(1, 6);
-    let events = (0..n).map(|_| random.one_of(kinds)).collect();
-    (decode(&image).expect("an accepted image"), events)
 }
 
 #[test]
@@ -77,8 +68,11 @@ fn readings_both_ways() {
         assert_eq!(listed(&grammar, &events), sorted);
         assert_eq!(readings.total(), sorted.len() as u64);
         for (number, script) in sorted.iter().enumerate() {
-            assert_eq!(readings.unranked(0, 0, n, number as u64), *script);
-            assert_eq!(readings.script(number as u32), *script);
+            let number = number as u64;
+            assert_eq!(readings.unranked(0, 0, n, number), *script);
+            assert_eq!(readings.ranked(0, 0, n, script), number);
+            assert_eq!(readings.script(number), *script);
+            assert_eq!(readings.number(script), Some(number));
         }
         seen += sorted.len();
     }
@@ -152,7 +146,7 @@ fn scripts_rise() {
     for total in [2_000, 2_001, 1 << 40, u64::MAX] {
         let events = digits(total);
         let readings = Readings::of(&grammar, &events);
-        let last = (total - 1).min(4_294_967_294) as u32;
+        let last = (total - 1).min(4_294_967_294);
         for k in [0, 1, 1_000, last / 2, last - 1] {
             let two = [readings.script(k), readings.script(k + 1)];
             assert!(two[0] < two[1]);

@@ -4,8 +4,8 @@ mod refused;
 
 use refused::{every_service_refuses, image_is_refused};
 use second::examples::{chain, faulty, image, in_every_way, largest, stop, version_2};
-use second::services::{check, count, judge, reading, test};
-use second::services::{Checked, Counted, Judged, Read, Tested};
+use second::services::{check, count, judge, number, reading, test};
+use second::services::{Checked, Counted, Judged, Numbered, Read, Tested};
 
 /// STOP with one byte changed.
 fn spoiled(place: usize, byte: u8) -> Vec<u8> {
@@ -160,6 +160,14 @@ fn read(number: u8) -> Read {
     Read { number, rule: 0 }
 }
 
+/// Of the first reading or of none.
+fn numbered(number: u8) -> Numbered {
+    Numbered {
+        number,
+        ..Numbered::default()
+    }
+}
+
 #[test]
 fn refusals_9_and_10() {
     let mut chart = [9; 5];
@@ -177,6 +185,11 @@ fn refusals_9_and_10() {
     let mut script = [7; 10];
     let refused = reading(&stop(), &[1, 2, 3], 0, &mut table, &mut script);
     assert_eq!(refused, read(10));
+    let first = [4, 1, 0, 1, 6, 2, 1, 2, 2, 3];
+    for script in [&first[..], &first[1..], &[], &[7; 10]] {
+        let refused = number(&stop(), &[1, 2, 3], script, &mut table);
+        assert_eq!(refused, numbered(10));
+    }
     assert_eq!((chart, table, script), ([9; 5], [8; 35], [7; 10]));
 }
 
@@ -197,10 +210,14 @@ fn rooms_of_the_longest_record() {
     let first = |table: &mut [u32], script: &mut [u16]| reading(&chain, &events, 0, table, script);
     assert_eq!(first(&mut table[1..], &mut script), read(10));
     assert_eq!(first(&mut table, &mut script[1..]), read(11));
+    let number_of = |script: &[u16], table: &mut [u32]| number(&chain, &events, script, table);
+    assert_eq!(number_of(&script, &mut table[1..]), numbered(10));
     assert_eq!((chart, table, script), ([9; 4_656], [8; 4_656], [7; 382]));
     assert_eq!(judge(&chain, &events, &mut chart).number, 0);
     assert_eq!(count(&chain, &events, &mut table).number, 0);
     assert_eq!(first(&mut table, &mut script), read(0));
+    assert_eq!(number_of(&script, &mut table), numbered(0));
+    assert_eq!(number_of(&script[1..], &mut table), numbered(12));
 }
 
 #[test]
@@ -223,6 +240,9 @@ fn an_empty_record_has_no_reading_without_the_flag() {
     for image in [chain(), version_2(&chain(), 0)] {
         for k in [0, 1, 4_294_967_295] {
             assert_eq!(reading(&image, &[], k, &mut [], &mut []), read(12));
+        }
+        for script in [&[][..], &[0, 1]] {
+            assert_eq!(number(&image, &[], script, &mut []), numbered(12));
         }
         assert_eq!(judge(&image, &[], &mut []), Judged::default());
         assert_eq!(count(&image, &[], &mut []), Counted::default());

@@ -1,7 +1,8 @@
 //! The rows of the specification's two grammars.
 
 use second::examples::{chain, largest, stop};
-use second::services::{check, count, judge, reading, Checked, Counted, Judged, Read};
+use second::services::{check, count, judge, number, reading};
+use second::services::{Checked, Counted, Judged, Numbered, Read};
 
 /// Enough for any row.
 const CHART: usize = 4_656;
@@ -88,6 +89,29 @@ fn first_readings() {
         yes: true,
     };
     assert_eq!(check(&stop(), &[1, 2, 3], &words), yes);
+    assert_eq!(numbered(&stop(), &[1, 2, 3], &words), told_number(0, 0));
+}
+
+fn numbered(image: &[u8], events: &[u16], words: &[u16]) -> Numbered {
+    number(image, events, words, &mut [0; TABLE])
+}
+
+fn told_number(number: u8, reading: u32) -> Numbered {
+    Numbered {
+        number,
+        rule: 0,
+        reading,
+    }
+}
+
+/// The two lines of the program's output, and lines that it doesn't have.
+#[test]
+fn numbers_of_chain_7_7_7() {
+    let number = |words: [u16; 10]| numbered(&chain(), &[7; 3], &words);
+    assert_eq!(number([1, 1, 0, 1, 1, 2, 0, 2, 0, 3]), told_number(0, 0));
+    assert_eq!(number([1, 2, 1, 1, 0, 1, 0, 2, 0, 3]), told_number(0, 1));
+    assert_eq!(number([1, 2, 1, 1, 0, 1, 0, 2, 0, 2]), told_number(12, 0));
+    assert_eq!(number([1, 1, 1, 1, 0, 1, 0, 2, 0, 3]), told_number(12, 0));
 }
 
 #[test]
@@ -109,6 +133,8 @@ fn many_readings() {
     let (number, words) = script(&chain(), &[7; 21], 4_294_967_294);
     assert_eq!(number, 0);
     assert!(check(&chain(), &[7; 21], &words).yes);
+    let numbered = numbered(&chain(), &[7; 21], &words);
+    assert_eq!(numbered, told_number(0, 4_294_967_294));
     assert_eq!(script(&chain(), &[7; 21], 4_294_967_295).0, 13);
     assert_eq!(script(&chain(), &[7; 3], 2).0, 12);
 }
@@ -122,6 +148,7 @@ fn most_events() {
         let (number, words) = script(&chain(), &events, 0);
         assert_eq!(number, 0);
         assert!(check(&chain(), &events, &words).yes);
+        assert_eq!(numbered(&chain(), &events, &words), told_number(0, 0));
     }
     for n in [97, 98, 256 + 96, 65_536] {
         let events = vec![7; n];
@@ -129,6 +156,7 @@ fn most_events() {
         assert_eq!(total(&chain(), &events).number, 8);
         assert_eq!(script(&chain(), &events, 0).0, 8);
         assert_eq!(check(&chain(), &events, &[]).number, 8);
+        assert_eq!(numbered(&chain(), &events, &[]), told_number(8, 0));
     }
 }
 

@@ -9,8 +9,8 @@ use second::examples::{chain, image, largest, stop, version_2};
 use second::image::decode;
 use second::random::Random;
 use second::readings::{is_reading, listed};
-use second::services::{check, count, judge, reading, test};
-use second::services::{Checked, Counted, Judged, Read, Tested};
+use second::services::{check, count, judge, number, reading, test};
+use second::services::{Checked, Counted, Judged, Numbered, Read, Tested};
 use second::trees::script_words;
 
 /// With one rule, with few, and with as many as there may be.
@@ -180,16 +180,23 @@ fn quiet_in_every_service(image: &[u8], room: usize) {
         let read = Read { number, rule: 0 };
         assert_eq!(reading(image, &[], k, &mut table, &mut script), read);
     }
-    let untouched = (vec![9; room], vec![8; room], vec![7; room]);
-    assert_eq!((chart, table, script), untouched);
     let yes = Checked {
         yes: true,
         ..Checked::default()
     };
     assert_eq!(check(image, &[], &[]), yes);
+    let first = Numbered::default();
+    assert_eq!(number(image, &[], &[], &mut table), first);
+    let none = Numbered {
+        number: 12,
+        ..Numbered::default()
+    };
     for words in [&[0][..], &[1], &[0, 0], &[0, 1], &[0, 1, 0, 1], &[0; 6]] {
         assert_eq!(check(image, &[], words), Checked::default());
+        assert_eq!(number(image, &[], words, &mut table), none);
     }
+    let untouched = (vec![9; room], vec![8; room], vec![7; room]);
+    assert_eq!((chart, table, script), untouched);
 }
 
 /// The empty script is no reading of them, and no symbol derives an empty stretch of them.
@@ -211,9 +218,13 @@ fn records_with_events_under_flag_1() {
     let mut read = |k| reading(&image, &[7], k, &mut table, &mut script).number;
     assert_eq!((read(1), read(0)), (12, 0));
     assert_eq!((table, script), ([1, 8], [0, 1, 7]));
-    assert!(check(&image, &[7], &[0, 1]).yes);
-    assert!(!check(&image, &[7], &[]).yes);
-    assert!(!check(&image, &[8], &[]).yes);
+    let mut told = |events: &[u16], script: &[u16]| {
+        let numbered = number(&image, events, script, &mut table).number;
+        (check(&image, events, script).yes, numbered)
+    };
+    assert_eq!(told(&[7], &[0, 1]), (true, 0));
+    assert_eq!(told(&[7], &[]), (false, 12));
+    assert_eq!(told(&[8], &[]), (false, 12));
 }
 
 #[test]
@@ -238,8 +249,13 @@ fn everything(image: &[u8], events: &[u16]) -> String {
     for k in [0, 1, 2, counted.total.saturating_sub(1), u32::MAX] {
         let (mut table, mut script) = (vec![8; room], vec![7; script_words(n) + 1]);
         let read = reading(image, events, k, &mut table, &mut script);
-        let checked = [0, 1].map(|more| check(image, events, &script[..script_words(n) + more]));
-        told += &format!(" {read:?} {table:?} {script:?} {checked:?}");
+        told += &format!(" {read:?} {table:?} {script:?}");
+        for words in [&script[..script_words(n)], &script] {
+            let mut table = vec![8; room];
+            let checked = check(image, events, words);
+            let numbered = number(image, events, words, &mut table);
+            told += &format!(" {checked:?} {numbered:?} {table:?}");
+        }
     }
     told
 }

@@ -1,7 +1,7 @@
 //! A refusal as every service gives it.
 
-use second::services::{check, count, judge, reading, test};
-use second::services::{Checked, Counted, Judged, Read, Tested};
+use second::services::{check, count, judge, number, reading, test};
+use second::services::{Checked, Counted, Judged, Numbered, Read, Tested};
 
 /// Whether or not record and rooms are at fault too.
 pub fn image_is_refused(told: (u8, u16), image: &[u8]) {
@@ -17,28 +17,39 @@ pub fn image_is_refused(told: (u8, u16), image: &[u8]) {
 
 /// Refused with this number and rule, zeros elsewhere and nothing written, whatever the room.
 pub fn every_service_refuses(told: (u8, u16), image: &[u8], events: &[u16], room: usize) {
-    let (number, rule) = told;
+    let (refusal, rule) = told;
     let (mut chart, mut table, mut script) = (vec![9; room], vec![8; room], vec![7; room]);
     let judged = Judged {
-        number,
+        number: refusal,
         rule,
         ..Judged::default()
     };
     let counted = Counted {
-        number,
+        number: refusal,
         rule,
         total: 0,
     };
     let checked = Checked {
-        number,
+        number: refusal,
         rule,
         yes: false,
     };
-    let read = Read { number, rule };
+    let numbered = Numbered {
+        number: refusal,
+        rule,
+        reading: 0,
+    };
+    let read = Read {
+        number: refusal,
+        rule,
+    };
     assert_eq!(judge(image, events, &mut chart), judged);
     assert_eq!(count(image, events, &mut table), counted);
     assert_eq!(reading(image, events, 0, &mut table, &mut script), read);
-    assert_eq!(check(image, events, &[4, 1]), checked);
+    for script in [&[][..], &[4, 1], &[0; 1_000]] {
+        assert_eq!(check(image, events, script), checked);
+        assert_eq!(number(image, events, script, &mut table), numbered);
+    }
     assert_eq!(
         (chart, table, script),
         (vec![9; room], vec![8; room], vec![7; room])

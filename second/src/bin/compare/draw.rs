@@ -4,6 +4,7 @@
 use crate::damage::RULE_FAULTS;
 use crate::dead::{one_dead_case, raw_case, ring_case};
 use crate::layered::{counted_case, layered_case};
+use crate::seams::seams_case;
 use second::drawn::{any_symbol, live_image, pair_rule, with_symbol};
 use second::examples::{binary, chain, digits, image, image_of, stop};
 use second::image::{decode, header_bytes, shown};
@@ -18,13 +19,14 @@ pub type Drawn = (Vec<u8>, Vec<u16>);
 /// where they aren't damaged, and how one is drawn.
 type Kind = (&'static str, usize, u8, fn(&mut Random) -> Drawn);
 
-pub const KINDS: [Kind; 17] = [
+pub const KINDS: [Kind; 18] = [
     ("chain", 40, 0, chain_case),
     ("stop", 30, 0, stop_case),
     ("binary", 85, 0, binary_case),
     ("product", 50, 0, product_case),
-    ("dense", 258, 0, |random| dense(random, live_image)),
-    ("sparse", 206, 0, |random| sparse(random, live_image)),
+    ("seams", 25, 0, seams_case),
+    ("dense", 243, 0, |random| dense(random, live_image)),
+    ("sparse", 196, 0, |random| sparse(random, live_image)),
     ("wide", 65, 0, |random| wide(random, live_image)),
     ("ring", 20, 0, ring_case),
     ("raw", 26, 15, raw_case),

@@ -1,30 +1,32 @@
 //! What must occur in many cases if they are what they are meant to be.
 
+use crate::changes::CHANGES;
 use crate::damage::FAULTS;
 use crate::draw::KINDS;
 use crate::filled;
 use crate::layered::LENGTHS;
 use crate::layouts::OF_LAYOUTS;
+use crate::numbers::LATE;
 use crate::quiet;
 use crate::remarks::{names, OF_RULES};
-use crate::scripts::CHANGES;
 use crate::symbols::OF_SYMBOLS;
 use second::drawn::SORTS;
 
 /// The numbers of each service.
-const NUMBERS: [(&str, &[u8]); 5] = [
+const NUMBERS: [(&str, &[u8]); 6] = [
     ("test", &[0, 1, 2, 3, 4, 5, 6, 7, 15]),
     ("judge", &[0, 1, 2, 3, 4, 5, 6, 7, 15, 8, 9]),
     ("count", &[0, 1, 2, 3, 4, 5, 6, 7, 15, 8, 10]),
     ("reading", &[0, 1, 2, 3, 4, 5, 6, 7, 15, 8, 10, 11, 12, 13]),
     ("check", &[0, 1, 2, 3, 4, 5, 6, 7, 15, 8]),
+    ("number", &[0, 1, 2, 3, 4, 5, 6, 7, 15, 8, 10, 12, 13]),
 ];
 
 const ROOMS: [&str; 3] = ["chart", "table", "script room"];
 
-const FITS: [&str; 4] = ["one word short", "shorter", "exact", "longer"];
+const FITS: [&str; 5] = ["empty", "one word short", "shorter", "exact", "longer"];
 
-const OTHERS: [&str; 26] = [
+const OTHERS: [&str; 45] = [
     "judge: not admitted",
     "judge: admitted",
     "judge: the most firings",
@@ -42,6 +44,25 @@ const OTHERS: [&str; 26] = [
     "check: no: of another symbol",
     "check: no: random words",
     "check: number 15, a reading",
+    "number: reading 4294967294",
+    "number: reading of 32 bits",
+    "number: number 0: each of few",
+    "number: number 0: a reading",
+    "number: number 0: a reading, the last numbered",
+    "number: number 0: two readings spliced",
+    "number: number 0: of another record",
+    "number: number 12: of another record",
+    "number: number 12: of another symbol",
+    "number: number 12: random words",
+    "number: number 13: a reading, the first not numbered",
+    "number: number 13: a reading, not numbered",
+    "number: number 13: a reading, not numbered in 64 bits",
+    "number: number 0, table past the need",
+    "number: number 12, table past the need",
+    "number: number 13, table past the need",
+    "number: number 15, a reading",
+    "number: undone",
+    "reading: undone",
     "reading: number 15, k of a reading",
     "reading: number 15, k past the count",
     "reading: number 15, k past all numbers",
@@ -79,8 +100,12 @@ pub fn expected() -> Vec<String> {
     }
     all.extend(KINDS.map(|(name, _, meant, _)| format!("kind: {name}, number {meant}")));
     all.extend(FAULTS.map(|(name, _)| format!("damage: {name}")));
-    let spoiled = CHANGES[1..].iter();
-    all.extend(spoiled.map(|(name, _)| format!("check: no: {name}")));
+    for (name, _) in CHANGES {
+        for late in ["", LATE] {
+            all.push(format!("check: no: {name}{late}"));
+            all.push(format!("number: number 12: {name}{late}"));
+        }
+    }
     all.extend(quiet::expected());
     all.extend(filled::expected());
     all.extend(OTHERS.map(str::to_string));

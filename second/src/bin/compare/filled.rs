@@ -53,7 +53,7 @@ pub fn expected() -> Vec<String> {
     let judged = all.iter().map(|what| format!("judge: {what}"));
     let mut lines: Vec<_> = judged.collect();
     all.extend(OF_TABLES.map(|(what, _)| what.to_string()));
-    for service in ["count", "reading"] {
+    for service in ["count", "reading", "number"] {
         lines.extend(all.iter().map(|what| format!("{service}: {what}")));
     }
     lines
@@ -181,12 +181,11 @@ impl Filled {
         let cells = cells(events.len());
         let (chart, table) = match &setting.call {
             Call::Judge { chart } => (chart.slice()[..cells].to_vec(), Vec::new()),
-            Call::Count { table } | Call::Reading { table, .. } => {
-                let words = &table.slice()[..cells * grammar.symbols];
+            call => {
+                let words = &call.table()?.slice()[..cells * grammar.symbols];
                 let chart = words.chunks(grammar.symbols).map(not_zero).collect();
                 (chart, words.to_vec())
             }
-            _ => return None,
         };
         Some(Filled {
             stretches: stretches_with_items(&grammar, events.len(), &chart),

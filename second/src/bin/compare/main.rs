@@ -1,8 +1,11 @@
 //! compare [--seed S] [--case I] [N]: the proved reader beside this one in N random cases, or in
-//! case I alone. A case is one image and one record through all five services. Both sides must
-//! agree in every answer and in every word, lent or not, and the proved reader with itself if a
-//! version 1 image is replaced by its twin of version 2. Stops at the first difference.
+//! case I alone. A case is one image and one record through all six services. Both sides must agree
+//! in every answer and in every word, lent or not, and the proved reader with itself if a version 1
+//! image is replaced by its twin of version 2, and if a number or a script is turned into the other
+//! and back. Stops at the first difference.
 
+mod case;
+mod changes;
 mod damage;
 mod dead;
 mod draw;
@@ -11,27 +14,30 @@ mod filled;
 mod layered;
 mod layouts;
 mod lent;
+mod notes;
+mod numbers;
 mod plan;
+mod proved;
 mod quiet;
 mod remarks;
 mod scripts;
+mod seams;
 mod setting;
 mod sides;
 mod symbols;
 mod tally;
+mod undo;
 mod versions;
 
+use case::Case;
 use damage::FAULTS;
-use layered::LENGTHS;
-use plan::{Plan, Step};
-use remarks::remarks;
+use proved::PROVED;
 use second::random::Random;
-use second::services::MOST_EVENTS;
-use setting::{Call, Setting};
-use sides::{Answer, Side, PROVED, SECOND};
+use setting::Setting;
+use sides::{Answer, Side, SECOND};
 use std::process::ExitCode;
-use symbols::later_refusal;
 use tally::Tally;
+use undo::undoing;
 use versions::{in_any_version, twin};
 
 /// In so many cases everything that is expected must occur.
@@ -40,9 +46,6 @@ const ENOUGH: u64 = 20_000;
 /// Of so many cases at least so many images in a hundred must be accepted, or too little but
 /// refusals is compared.
 const ACCEPTED: u64 = 45;
-
-/// The firings of the largest image and record with every symbol in every cell.
-const MOST_FIRINGS: u64 = 37_750_784;
 
 struct Arguments {
     seed: u64,
@@ -128,15 +131,18 @@ fn compare(seed: u64, case: u64, tally: &mut Tally) -> Result<(), String> {
     if number == meant {
         tally.add(format!("kind: {name}, number {number}"));
     }
-    for step in Plan::new(&mut random, tally, &image, &events).steps() {
+    for step in plan::steps(&mut Case::new(&mut random, tally, &image, &events)) {
         let second = called(&SECOND, &step.setting);
-        compare_step(&step, &second)?;
+        compare_sides(&step.setting, &second)?;
         if let Some((flag, twin)) = twin(&mut random, &step.setting) {
             tally.add(format!("{}: twin with flag {flag}", twin.service()));
             compare_twin(&twin, &second)?;
         }
-        note(tally, &step, second.answer);
-        note_filled(tally, &second);
+        if let Some((undoing, undone)) = undoing(&mut random, &second) {
+            tally.add(format!("{}: undone", step.setting.service()));
+            compare_undone(&undoing, &undone)?;
+        }
+        notes::note(tally, &step, &second);
     }
     Ok(())
 }
@@ -155,9 +161,9 @@ fn called(side: &Side, setting: &Setting) -> Called {
 }
 
 /// Both sides must agree.
-fn compare_step(step: &Step, second: &Called) -> Result<(), String> {
-    let proved = called(&PROVED, &step.setting);
-    agree(&step.setting, [("proved", &proved), ("second", second)])
+fn compare_sides(lent: &Setting, second: &Called) -> Result<(), String> {
+    let proved = called(&PROVED, lent);
+    agree(lent, [("proved", &proved), ("second", second)])
 }
 
 /// The proved side must end with the twin as both sides did with the version 1 image.
@@ -170,6 +176,12 @@ fn compare_twin(twin: &Setting, second: &Called) -> Result<(), String> {
     let answer = second.answer;
     let version_1 = Called { answer, setting };
     agree(twin, [("version 2", &proved), ("version 1", &version_1)])
+}
+
+/// The proved side must come back to where another call of it began.
+fn compare_undone(undoing: &Setting, undone: &Called) -> Result<(), String> {
+    let proved = called(&PROVED, undoing);
+    agree(undoing, [("proved", &proved), ("undone", undone)])
 }
 
 /// An error if two calls that were lent the same don't end alike, and in what.
@@ -186,74 +198,4 @@ fn agree(lent: &Setting, [one, other]: [(&str, &Called); 2]) -> Result<(), Strin
         other.answer,
         word.unwrap_or("none".to_string()),
     ))
-}
-
-/// Records of some lengths are counted on their own.
-fn note_length(tally: &mut Tally, step: &Step, answer: &Answer) {
-    let service = step.setting.service();
-    let n = step.setting.events.slice().len();
-    let notable = n == MOST_EVENTS + 1 || LENGTHS.contains(&n);
-    if service != "test" && notable && [0, 8].contains(&answer.number) {
-        tally.add(format!("{service}: {n} events, number {}", answer.number));
-    }
-    if service == "check" && notable && answer.rest[0] == 1 {
-        tally.add(format!("check: {n} events, yes"));
-    }
-}
-
-/// What the call would be refused for besides dead symbols, or else what it is about.
-fn note_dead(tally: &mut Tally, step: &Step) {
-    let service = step.setting.service();
-    match later_refusal(&step.setting) {
-        Some(later) => tally.add(format!("{service}: number 15 before {later}")),
-        None if step.note.is_empty() => (),
-        None => tally.add(format!("{service}: number 15, {}", step.note)),
-    }
-}
-
-/// What is told of a chart or a table that was filled; refusals 12 and 13 leave one too.
-fn note_filled(tally: &mut Tally, second: &Called) {
-    if [0, 12, 13].contains(&second.answer.number) {
-        for line in filled::lines(&second.setting) {
-            tally.add(line);
-        }
-    }
-}
-
-fn note(tally: &mut Tally, step: &Step, answer: Answer) {
-    let Answer { number, rest, .. } = answer;
-    let service = step.setting.service();
-    tally.add(format!("{service}: number {number}"));
-    for remark in remarks(step.setting.image.slice(), &answer) {
-        tally.add(format!("{service}: number {number}, {remark}"));
-    }
-    note_length(tally, step, &answer);
-    if number == 15 {
-        note_dead(tally, step);
-    }
-    if let Some(line) = quiet::line(&step.setting, &answer) {
-        tally.add(line);
-    }
-    match step.setting.call {
-        Call::Reading { k, .. } if k >= 4_294_967_294 && [0, 12, 13].contains(&number) => {
-            tally.add(format!("reading: k = {k}, number {number}"));
-        }
-        Call::Judge { .. } if number == 0 => {
-            let verdict = ["not admitted", "admitted"][rest[0] as usize];
-            tally.add(format!("judge: {verdict}"));
-            if rest[2] == MOST_FIRINGS {
-                tally.add("judge: the most firings");
-            }
-        }
-        Call::Count { .. } if number == 0 => tally.add(match rest[0] {
-            0 => "count: total 0",
-            4_294_967_295 => "count: total 4294967295",
-            _ => "count: total between",
-        }),
-        Call::Check { .. } if number == 0 => {
-            let verdict = ["no", "yes"][rest[0] as usize];
-            tally.add(format!("check: {verdict}: {}", step.note));
-        }
-        _ => (),
-    }
 }

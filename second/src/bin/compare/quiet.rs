@@ -29,6 +29,13 @@ pub fn line(setting: &Setting, answer: &Answer) -> Option<String> {
             format!("empty script {}", answer.rest[0])
         }
         Call::Check { .. } => format!("other words {}", answer.rest[0]),
+        Call::Number { script, .. } => {
+            let words = match script.slice() {
+                [] => "empty script",
+                _ => "other words",
+            };
+            format!("{words}, number {}", answer.number)
+        }
         _ => return None,
     };
     Some(told(image, setting.service(), &said))
@@ -51,8 +58,14 @@ pub fn expected() -> Vec<String> {
             told(image, "reading", "k = 4294967295, number 12"),
             told(image, "check", &format!("empty script {readings}")),
             told(image, "check", "other words 0"),
+            told(
+                image,
+                "number",
+                &format!("empty script, number {reading_0}"),
+            ),
+            told(image, "number", "other words, number 12"),
         ]);
-        let services = ["judge", "count", "reading", "check"];
+        let services = ["judge", "count", "reading", "check", "number"];
         all.extend(services.map(|service| told(image, service, "number 15")));
     }
     all

@@ -1,71 +1,151 @@
-//! Scripts for the checker: readings, and readings spoiled in one way or another.
+//! Words to check and to number: scripts of readings as they are or spoiled, and others.
 
-use second::image::Grammar;
+use crate::changes::CHANGES;
+use crate::draw::LONGEST;
+use crate::numbers;
+use second::derive::matches;
+use second::image::PairRule;
 use second::random::Random;
 use second::readings::{cut, Readings};
+use second::trees::script_words;
 
-/// A name, and what is done to a reading's script.
-type Change = (&'static str, fn(&mut Random, &Readings, &mut Vec<u16>));
+/// Words, and the record that they are offered with.
+pub struct Script {
+    pub words: Vec<u16>,
+    pub events: Vec<u16>,
+    /// What they are, for the tally.
+    pub what: String,
+}
 
-pub const CHANGES: [Change; 9] = [
-    ("a reading", |_, _, _| ()),
-    ("a word one up or down", |random, _, script| {
-        let (place, step) = (random.below(script.len()), random.one_of(&[1, u16::MAX]));
-        script[place] = script[place].wrapping_add(step);
-    }),
-    ("a word as elsewhere", |random, _, script| {
-        let place = random.below(script.len());
-        script[place] = random.one_of(script);
-    }),
-    ("a word any number", |random, _, script| {
-        let place = random.below(script.len());
-        script[place] = random.word() as u16;
-    }),
-    ("two words swapped", |random, _, script| {
-        let (a, b) = (random.below(script.len()), random.below(script.len()));
-        script.swap(a, b);
-    }),
-    ("two readings spliced", |random, readings, script| {
-        let other = any_reading(random, readings);
-        let place = random.below(script.len());
-        script[place..].copy_from_slice(&other[place..]);
-    }),
-    ("cut", |random, _, script| {
-        let words = script.len().saturating_sub(random.within(1, 4));
-        script.truncate(words);
-    }),
-    ("grown", |random, _, script| {
-        let words = random.within(1, 4).min(script.len());
-        script.extend_from_within(..words);
-    }),
-    ("empty", |_, _, script| script.clear()),
-];
+fn script(words: Vec<u16>, events: &[u16], what: impl Into<String>) -> Script {
+    Script {
+        words,
+        events: events.to_vec(),
+        what: what.into(),
+    }
+}
 
-/// The script of any reading of a record that has one.
+/// A script drawn for the record; random words if it has none of the kind drawn.
+pub fn any_script(random: &mut Random, readings: &Readings) -> Script {
+    let kind = random.below(CHANGES.len() + 3);
+    let found = match kind.checked_sub(CHANGES.len()) {
+        None => changed(random, readings, kind),
+        Some(0) => a_reading(random, readings),
+        Some(1) => of_another_record(random, readings),
+        Some(_) => of_another_symbol(random, readings),
+    };
+    found.unwrap_or_else(|| random_words(random, readings.events))
+}
+
+/// The script of any reading as it is.
+pub fn a_reading(random: &mut Random, readings: &Readings) -> Option<Script> {
+    let (words, number) = any_with_number(random, readings)?;
+    let what = format!("a reading{}", numbers::place(number));
+    Some(script(words, readings.events, what))
+}
+
+fn changed(random: &mut Random, readings: &Readings, kind: usize) -> Option<Script> {
+    let (mut words, number) = any_with_number(random, readings)?;
+    let (name, change) = CHANGES[kind];
+    change(random, readings, &mut words);
+    let what = format!("{name}{}", numbers::lateness(number));
+    Some(script(words, readings.events, what))
+}
+
+fn of_another_record(random: &mut Random, readings: &Readings) -> Option<Script> {
+    let (words, _) = any_with_number(random, readings)?;
+    let events = another_record(random, readings.events);
+    Some(script(words, &events, "of another record"))
+}
+
+/// The words and the number of any reading of a record that has one with words; of the empty script
+/// nothing can be changed.
+fn any_with_number(random: &mut Random, readings: &Readings) -> Option<(Vec<u16>, u64)> {
+    if readings.total() == 0 || readings.events.is_empty() {
+        return None;
+    }
+    let words = any_reading(random, readings);
+    let number = readings.number(&words).expect("a reading");
+    Some((words, number))
+}
+
+/// By its number mostly, but also such as have none in 64 bits.
 pub fn any_reading(random: &mut Random, readings: &Readings) -> Vec<u16> {
-    let number = random.below(cut(readings.total()) as usize);
-    readings.script(number as u32)
+    let n = readings.events.len();
+    match random.below(8) {
+        0 => derivation(readings, 0, 0, n, &mut |choices| choices - 1),
+        1 => derivation(readings, 0, 0, n, &mut |choices| random.below(choices)),
+        2..=5 if readings.total() == u64::MAX => by_parts(random, readings),
+        _ => readings.script(numbers::of_a_reading(random, readings.total())),
+    }
+}
+
+/// By its number among those with the same root: any, or one that is small if 64 bits are kept of it.
+fn by_parts(random: &mut Random, readings: &Readings) -> Vec<u16> {
+    let n = readings.events.len();
+    let (rule, j, pair) = random.one_of(&splits(readings, 0, 0, n));
+    let lefts = readings.derivations(pair.left, 0, j);
+    let rights = u128::from(readings.derivations(pair.right, j, n));
+    let all = u128::from(lefts) * rights;
+    let number = match random.below(4) {
+        0 => u128::from(random.word()) << random.below(64),
+        _ => (1 << 64) + u128::from(random.word() as u32),
+    };
+    let number = number % all;
+    let left = readings.unranked(pair.left, 0, j, (number / rights) as u64);
+    let right = readings.unranked(pair.right, j, n, (number % rights) as u64);
+    [vec![rule as u16, j as u16], left, right].concat()
+}
+
+/// The script of a derivation of [a, i, k], of which there must be one. For each node one of so many
+/// rules and splits is chosen.
+fn derivation(
+    readings: &Readings,
+    a: usize,
+    i: usize,
+    k: usize,
+    choose: &mut dyn FnMut(usize) -> usize,
+) -> Vec<u16> {
+    for (rule, event_rule) in readings.grammar.event_rules_of(a) {
+        if matches(event_rule, readings.events, i, k) {
+            return vec![rule as u16, k as u16];
+        }
+    }
+    let choices = splits(readings, a, i, k);
+    let (rule, j, pair) = choices[choose(choices.len())];
+    let left = derivation(readings, pair.left, i, j, choose);
+    let right = derivation(readings, pair.right, j, k, choose);
+    [vec![rule as u16, j as u16], left, right].concat()
+}
+
+/// Every rule and split with a derivation of [a, i, k], in their order.
+fn splits(readings: &Readings, a: usize, i: usize, k: usize) -> Vec<(usize, usize, PairRule)> {
+    let derives = |a, i, k| readings.derivations(a, i, k) > 0;
+    let mut splits = Vec::new();
+    for (rule, pair) in readings.grammar.pair_rules_of(a) {
+        let both = |j: &usize| derives(pair.left, i, *j) && derives(pair.right, *j, k);
+        splits.extend((i + 1..k).filter(both).map(|j| (rule, j, *pair)));
+    }
+    splits
 }
 
 /// The script of a derivation of the whole record from a symbol that is not the start.
-pub fn of_another_symbol(
-    random: &mut Random,
-    grammar: &Grammar,
-    events: &[u16],
-    readings: &Readings,
-) -> Option<Vec<u16>> {
-    let derived = |a: &usize| readings.derivations(*a) > 0;
-    let others: Vec<_> = (1..grammar.symbols).filter(derived).collect();
+fn of_another_symbol(random: &mut Random, readings: &Readings) -> Option<Script> {
+    let n = readings.events.len();
+    let count = |a| readings.derivations(a, 0, n);
+    let symbols = 1..readings.grammar.symbols;
+    let others: Vec<_> = symbols.filter(|&a| count(a) > 0).collect();
     if others.is_empty() {
         return None;
     }
     let a = random.one_of(&others);
-    let number = random.below(cut(readings.derivations(a)) as usize);
-    Some(readings.unranked(a, 0, events.len(), number as u64))
+    let number = random.below(cut(count(a)) as usize);
+    let words = readings.unranked(a, 0, n, number as u64);
+    Some(script(words, readings.events, "of another symbol"))
 }
 
 /// The record with one event changed, perhaps to one that the rules know, or an empty record.
-pub fn another_record(random: &mut Random, events: &[u16]) -> Vec<u16> {
+fn another_record(random: &mut Random, events: &[u16]) -> Vec<u16> {
     if random.once_in(8) {
         return Vec::new();
     }
@@ -75,8 +155,10 @@ pub fn another_record(random: &mut Random, events: &[u16]) -> Vec<u16> {
     events
 }
 
-/// Small words, about as many as a script has.
-pub fn random_words(random: &mut Random, need: usize) -> Vec<u16> {
-    let words = random.one_of(&[need, need, need, need + 1, 2]);
-    (0..words).map(|_| random.below(6) as u16).collect()
+/// Small words, about as many as a script has, or as one of the longest records has.
+pub fn random_words(random: &mut Random, events: &[u16]) -> Script {
+    let need = script_words(events.len().min(LONGEST));
+    let length = random.one_of(&[need, need, need, need + 1, 2]);
+    let words = (0..length).map(|_| random.below(6) as u16).collect();
+    script(words, events, "random words")
 }

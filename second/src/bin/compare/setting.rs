@@ -1,6 +1,6 @@
 //! A service with all that it is lent.
 
-use crate::lent::Lent;
+use crate::lent::{Lent, Word};
 use crate::sides::{Answer, Side};
 
 /// A service, and the memory that it alone is lent.
@@ -21,6 +21,37 @@ pub enum Call {
     Check {
         script: Lent<u16>,
     },
+    Number {
+        script: Lent<u16>,
+        table: Lent<u32>,
+    },
+}
+
+impl Call {
+    fn chart(&self) -> Option<&Lent<u64>> {
+        match self {
+            Call::Judge { chart } => Some(chart),
+            _ => None,
+        }
+    }
+
+    pub fn table(&self) -> Option<&Lent<u32>> {
+        match self {
+            Call::Count { table } | Call::Reading { table, .. } | Call::Number { table, .. } => {
+                Some(table)
+            }
+            _ => None,
+        }
+    }
+
+    fn script(&self) -> Option<&Lent<u16>> {
+        match self {
+            Call::Reading { script, .. } | Call::Check { script } | Call::Number { script, .. } => {
+                Some(script)
+            }
+            _ => None,
+        }
+    }
 }
 
 /// Equal if every word is, lent or not.
@@ -42,6 +73,9 @@ impl Setting {
                 (side.reading)(image, events, *k, table.slice_mut(), script.slice_mut())
             }
             Call::Check { script } => (side.check)(image, events, script.slice()),
+            Call::Number { script, table } => {
+                (side.number)(image, events, script.slice(), table.slice_mut())
+            }
         }
     }
 
@@ -52,6 +86,7 @@ impl Setting {
             Call::Count { .. } => "count",
             Call::Reading { .. } => "reading",
             Call::Check { .. } => "check",
+            Call::Number { .. } => "number",
         }
     }
 
@@ -66,6 +101,10 @@ impl Setting {
                 format!("k = {k}, table of {table} words, script room of {script} words")
             }
             Call::Check { script } => format!("script {:?}", script.slice()),
+            Call::Number { script, table } => {
+                let (script, table) = (script.slice(), table.slice().len());
+                format!("script {script:?}, table of {table} words")
+            }
         };
         let (image, events) = (self.image.slice(), self.events.slice());
         let service = self.service();
@@ -74,35 +113,20 @@ impl Setting {
 
     /// The first word in which two that were equal before the call differ.
     pub fn difference(&self, other: &Self) -> Option<String> {
-        let mut words = vec![
+        let (ours, others) = (&self.call, &other.call);
+        let words = [
             ("image", self.image.difference(&other.image)),
             ("events", self.events.difference(&other.events)),
+            ("chart", difference(ours.chart(), others.chart())),
+            ("table", difference(ours.table(), others.table())),
+            ("script", difference(ours.script(), others.script())),
         ];
-        match (&self.call, &other.call) {
-            (Call::Judge { chart: a }, Call::Judge { chart: b }) => {
-                words.push(("chart", a.difference(b)));
-            }
-            (Call::Count { table: a }, Call::Count { table: b }) => {
-                words.push(("table", a.difference(b)));
-            }
-            (
-                Call::Reading {
-                    table: a,
-                    script: c,
-                    ..
-                },
-                Call::Reading {
-                    table: b,
-                    script: d,
-                    ..
-                },
-            ) => words.extend([("table", a.difference(b)), ("script", c.difference(d))]),
-            (Call::Check { script: a }, Call::Check { script: b }) => {
-                words.push(("script", a.difference(b)));
-            }
-            _ => (),
-        }
         let mut found = words.into_iter();
         found.find_map(|(what, word)| Some(format!("{what}, {}", word?)))
     }
+}
+
+/// Nothing if the service is lent none of this.
+fn difference<T: Word>(ours: Option<&Lent<T>>, others: Option<&Lent<T>>) -> Option<String> {
+    ours?.difference(others?)
 }

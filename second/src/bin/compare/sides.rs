@@ -1,4 +1,4 @@
-//! Both sides behind the same five functions.
+//! What both sides offer: the same six functions.
 
 use second::services;
 
@@ -16,6 +16,7 @@ type Judge = fn(&[u8], &[u16], &mut [u64]) -> Answer;
 type Count = fn(&[u8], &[u16], &mut [u32]) -> Answer;
 type Reading = fn(&[u8], &[u16], u32, &mut [u32], &mut [u16]) -> Answer;
 type Check = fn(&[u8], &[u16], &[u16]) -> Answer;
+type Number = fn(&[u8], &[u16], &[u16], &mut [u32]) -> Answer;
 
 pub struct Side {
     pub test: Test,
@@ -23,6 +24,7 @@ pub struct Side {
     pub count: Count,
     pub reading: Reading,
     pub check: Check,
+    pub number: Number,
 }
 
 pub const SECOND: Side = Side {
@@ -49,174 +51,13 @@ pub const SECOND: Side = Side {
         let checked = services::check(image, events, script);
         answer(checked.number, checked.rule, [checked.yes.into(), 0, 0])
     },
+    number: |image, events, script, table| {
+        let numbered = services::number(image, events, script, table);
+        let rest = [numbered.reading.into(), 0, 0];
+        answer(numbered.number, numbered.rule, rest)
+    },
 };
 
-pub const PROVED: Side = Side {
-    test: proved_test,
-    judge: proved_judge,
-    count: proved_count,
-    reading: proved_reading,
-    check: proved_check,
-};
-
-fn answer(number: u8, rule: u16, rest: [u64; 3]) -> Answer {
+pub fn answer(number: u8, rule: u16, rest: [u64; 3]) -> Answer {
     Answer { number, rule, rest }
-}
-
-// A yes or no is taken as a byte, so that one that is neither 0 nor 1 is seen.
-#[link(name = "boundary", kind = "static")]
-extern "C" {
-    fn reader_test(
-        image: *const u8,
-        image_len: usize,
-        rule: *mut u16,
-        symbols: *mut usize,
-        leaves: *mut usize,
-        pairs: *mut usize,
-    ) -> u8;
-    fn reader_judge(
-        image: *const u8,
-        image_len: usize,
-        events: *const u16,
-        events_len: usize,
-        chart: *mut u64,
-        chart_len: usize,
-        rule: *mut u16,
-        admitted: *mut u8,
-        items: *mut u64,
-        firings: *mut u64,
-    ) -> u8;
-    fn reader_count(
-        image: *const u8,
-        image_len: usize,
-        events: *const u16,
-        events_len: usize,
-        table: *mut u32,
-        table_len: usize,
-        rule: *mut u16,
-        total: *mut u32,
-    ) -> u8;
-    fn reader_reading(
-        image: *const u8,
-        image_len: usize,
-        events: *const u16,
-        events_len: usize,
-        k: u32,
-        table: *mut u32,
-        table_len: usize,
-        script: *mut u16,
-        script_len: usize,
-        rule: *mut u16,
-    ) -> u8;
-    fn reader_check(
-        image: *const u8,
-        image_len: usize,
-        events: *const u16,
-        events_len: usize,
-        script: *const u16,
-        script_len: usize,
-        rule: *mut u16,
-        yes: *mut u8,
-    ) -> u8;
-}
-
-// SAFETY, of every call below: each pointer goes with the length of the slice that it came from or
-// points to a local of its type; the proved side stays within them and keeps none.
-//
-// The locals hold what no answer is, so that one left unwritten is seen.
-
-fn proved_test(image: &[u8]) -> Answer {
-    let (mut rule, [mut symbols, mut leaves, mut pairs]) = (u16::MAX, [usize::MAX; 3]);
-    let number = unsafe {
-        reader_test(
-            image.as_ptr(),
-            image.len(),
-            &mut rule,
-            &mut symbols,
-            &mut leaves,
-            &mut pairs,
-        )
-    };
-    let rest = [symbols, leaves, pairs].map(|count| count as u64);
-    answer(number, rule, rest)
-}
-
-fn proved_judge(image: &[u8], events: &[u16], chart: &mut [u64]) -> Answer {
-    let (mut rule, mut admitted) = (u16::MAX, u8::MAX);
-    let (mut items, mut firings) = (u64::MAX, u64::MAX);
-    let number = unsafe {
-        reader_judge(
-            image.as_ptr(),
-            image.len(),
-            events.as_ptr(),
-            events.len(),
-            chart.as_mut_ptr(),
-            chart.len(),
-            &mut rule,
-            &mut admitted,
-            &mut items,
-            &mut firings,
-        )
-    };
-    answer(number, rule, [admitted.into(), items, firings])
-}
-
-fn proved_count(image: &[u8], events: &[u16], table: &mut [u32]) -> Answer {
-    // Any total may be right here or there; this one hardly ever is.
-    let (mut rule, mut total) = (u16::MAX, 0x5A5A_5A5A);
-    let number = unsafe {
-        reader_count(
-            image.as_ptr(),
-            image.len(),
-            events.as_ptr(),
-            events.len(),
-            table.as_mut_ptr(),
-            table.len(),
-            &mut rule,
-            &mut total,
-        )
-    };
-    answer(number, rule, [total.into(), 0, 0])
-}
-
-fn proved_reading(
-    image: &[u8],
-    events: &[u16],
-    k: u32,
-    table: &mut [u32],
-    script: &mut [u16],
-) -> Answer {
-    let mut rule = u16::MAX;
-    let number = unsafe {
-        reader_reading(
-            image.as_ptr(),
-            image.len(),
-            events.as_ptr(),
-            events.len(),
-            k,
-            table.as_mut_ptr(),
-            table.len(),
-            script.as_mut_ptr(),
-            script.len(),
-            &mut rule,
-        )
-    };
-    answer(number, rule, [0; 3])
-}
-
-fn proved_check(image: &[u8], events: &[u16], script: &[u16]) -> Answer {
-    let (mut rule, mut yes) = (u16::MAX, u8::MAX);
-    let number = unsafe {
-        reader_check(
-            image.as_ptr(),
-            image.len(),
-            events.as_ptr(),
-            events.len(),
-            script.as_ptr(),
-            script.len(),
-            &mut rule,
-            &mut yes,
-        )
-    };
-    answer(number, rule, [yes.into(), 0, 0])
 }

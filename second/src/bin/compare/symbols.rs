@@ -107,15 +107,18 @@ pub fn later_refusal(setting: &Setting) -> Option<u8> {
     if n > MOST_EVENTS && setting.call != Call::Test {
         return Some(8);
     }
-    let table_words = cells(n) * usize::from(setting.image.slice()[5]);
+    let table = setting.call.table();
+    if table.is_some_and(|table| table.slice().len() < table_words(setting)) {
+        return Some(10);
+    }
     match &setting.call {
         Call::Judge { chart } if chart.slice().len() < cells(n) => Some(9),
-        Call::Count { table } | Call::Reading { table, .. }
-            if table.slice().len() < table_words =>
-        {
-            Some(10)
-        }
         Call::Reading { script, .. } if script.slice().len() < script_words(n) => Some(11),
         _ => None,
     }
+}
+
+/// The words of a count table, given an image that isn't refused but for dead symbols.
+pub fn table_words(setting: &Setting) -> usize {
+    cells(setting.events.slice().len()) * usize::from(setting.image.slice()[5])
 }
