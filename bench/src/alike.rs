@@ -48,6 +48,20 @@ impl Alike {
         trees(events).saturating_mul(choices)
     }
 
+    /// The script of a symbol's last derivation over the first events of a record: by its last rule
+    /// and at the last split, so that the right part is a leaf.
+    pub fn last(&self, image: &[u8], symbol: u8, events: &[u16]) -> Vec<u16> {
+        if events.len() == 1 {
+            return leaf(image, symbol, events).to_vec();
+        }
+        let rule = self.event_rules + self.pair_rules * (symbol as u16 + 1) - 1;
+        let parts = &image[10 + 3 * rule as usize..][1..3];
+        let split = events.len() - 1;
+        let left = self.last(image, parts[0], &events[..split]);
+        let right = leaf(image, parts[1], events);
+        [&[rule, split as u16], &left[..], &right].concat()
+    }
+
     /// The number of a script over a stretch from place `i`: how many come before it.
     pub fn number_of(&self, script: &[u16], i: usize) -> u128 {
         let &[rule, split, ref parts @ ..] = script else {
@@ -68,4 +82,15 @@ impl Alike {
             .saturating_add(lefts)
             .saturating_add(self.number_of(right, j))
     }
+}
+
+/// The leaf of a symbol over the last of the first events of a record.
+fn leaf(image: &[u8], symbol: u8, events: &[u16]) -> [u16; 2] {
+    let place = events.len();
+    let [low, high] = events[place - 1].to_le_bytes();
+    let rule = image[10..]
+        .chunks_exact(3)
+        .position(|rule| rule == [symbol, low, high])
+        .expect("every symbol turns into every event");
+    [rule as u16, place as u16]
 }

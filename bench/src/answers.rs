@@ -23,6 +23,13 @@ pub struct Counted {
 }
 
 #[derive(Debug, Default, PartialEq)]
+pub struct Numbered {
+    pub refusal: Refusal,
+    /// The number of the reading.
+    pub reading: u32,
+}
+
+#[derive(Debug, Default, PartialEq)]
 pub struct Checked {
     pub refusal: Refusal,
     pub yes: bool,
@@ -46,6 +53,15 @@ impl From<Refusal> for Judged {
 impl From<Refusal> for Counted {
     fn from(refusal: Refusal) -> Self {
         Counted { refusal, total: 0 }
+    }
+}
+
+impl From<Refusal> for Numbered {
+    fn from(refusal: Refusal) -> Self {
+        Numbered {
+            refusal,
+            reading: 0,
+        }
     }
 }
 

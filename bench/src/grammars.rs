@@ -154,6 +154,39 @@ pub fn two_chains() -> Vec<u8> {
     image(3, &[(1, 7), (2, 8)], &[[0, 1, 2], [1, 1, 1], [2, 2, 2]])
 }
 
+/// The start turns into CHAIN over event 7 and then either of two CHAINs over event 8.
+pub fn three_chains() -> Vec<u8> {
+    let mut pairs = vec![[0, 1, 2], [0, 1, 3]];
+    pairs.extend([1, 2, 3].map(|chain| [chain; 3]));
+    image(4, &[(1, 7), (2, 8), (3, 8)], &pairs)
+}
+
+/// The start turns into event 7, and is made of itself and one event 7 behind it.
+pub fn one_by_one() -> Vec<u8> {
+    image(2, &[(0, 7), (1, 7)], &[[0, 0, 1]])
+}
+
+/// Sixteen symbols turn into event 7, and the start is made of any two of them.
+pub fn any_two() -> Vec<u8> {
+    let leaves: Vec<_> = (0..16).map(|symbol| (symbol, 7)).collect();
+    let pairs: Vec<_> = (0..=255).map(|r| [0, r / 16, r % 16]).collect();
+    image(16, &leaves, &pairs)
+}
+
+/// Symbols: 0 shift, 60 stop, 61 and 62 press, 63 release. A shift is made of stops, and each of a
+/// press and a release: since both presses turn into event 1, every stop is read in two ways. The
+/// other symbols turn into event 8, which no record has. Their 251 rules are the start's: they never
+/// fire, and stand before its rules that do.
+pub fn forked() -> Vec<u8> {
+    let mut leaves = vec![(61, 1), (62, 1), (63, 2)];
+    leaves.extend((1..60).map(|idle| (idle, 8)));
+    let mut pairs = vec![[0, 60, 0]];
+    pairs.extend([0, 60].map(|made| [made, 61, 63]));
+    pairs.extend([0, 60].map(|made| [made, 62, 63]));
+    pairs.extend((0..251).map(|r| [0, 1 + r % 59, 1 + r / 59]));
+    image(64, &leaves, &pairs)
+}
+
 /// Symbols: 0 day, 1 stop, 2 press, 3 tail, 4 relay, 5 reset.
 pub fn stop() -> Vec<u8> {
     stop_and(6, &[], &[])

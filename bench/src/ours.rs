@@ -1,7 +1,7 @@
 //! The proved services, called through the C functions of the archive; `archive` says why every
 //! call is sound.
 
-use crate::answers::{Checked, Refusal};
+use crate::answers::{Checked, Numbered, Refusal};
 use crate::archive::{judge_and_count, NO_RULE};
 
 judge_and_count!("boundary", "reader_judge", "reader_count");
@@ -18,6 +18,19 @@ extern "C" {
         script: *mut u16,
         script_len: usize,
         rule: *mut u16,
+    ) -> u8;
+
+    fn reader_number(
+        image: *const u8,
+        image_len: usize,
+        events: *const u16,
+        events_len: usize,
+        script: *const u16,
+        script_len: usize,
+        table: *mut u32,
+        table_len: usize,
+        rule: *mut u16,
+        reading: *mut u32,
     ) -> u8;
 
     fn reader_check(
@@ -56,6 +69,31 @@ pub fn reading(
         )
     };
     Refusal { number, rule }
+}
+
+pub fn number(image: &[u8], events: &[u16], script: &[u16], table: &mut [u32]) -> Numbered {
+    let mut rule = NO_RULE;
+    // No refusal and no case answers this, so that a number left unwritten is seen.
+    let mut reading = 0xDEAD_BEEF;
+    // SAFETY: as said of every call.
+    let number = unsafe {
+        reader_number(
+            image.as_ptr(),
+            image.len(),
+            events.as_ptr(),
+            events.len(),
+            script.as_ptr(),
+            script.len(),
+            table.as_mut_ptr(),
+            table.len(),
+            &mut rule,
+            &mut reading,
+        )
+    };
+    Numbered {
+        refusal: Refusal { number, rule },
+        reading,
+    }
 }
 
 pub fn check(image: &[u8], events: &[u16], script: &[u16]) -> Checked {

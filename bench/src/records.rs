@@ -1,7 +1,8 @@
-//! What the services are called with: images, and the events that are read by them.
+//! What the services are called with: images, the events that are read by them, and scripts.
 
 use crate::grammars::{
-    among_first, any_half, chain, cyclic, flagged, largest, mixed, one_each_round, stop, two_chains,
+    self, among_first, any_half, chain, cyclic, flagged, largest, mixed, one_each_round, stop,
+    two_chains,
 };
 use crate::plain;
 use crate::random::Random;
@@ -38,6 +39,31 @@ impl Input {
             k: 0,
             script: Vec::new(),
         }
+    }
+
+    pub fn named(self, name: &'static str) -> Self {
+        Input { name, ..self }
+    }
+
+    pub fn with_script(self, script: &[u16]) -> Self {
+        let script = script.to_vec();
+        Input { script, ..self }
+    }
+
+    /// With a number and the script of its reading, from the plain side.
+    pub fn with_reading(self, k: u32) -> Self {
+        let needs = self.needs();
+        let (mut table, mut script) = (vec![0; needs.table], vec![0; needs.script]);
+        let read = plain::reading(&self.image, &self.events, k, &mut table, &mut script);
+        assert_eq!(read.number, 0, "{}: reading {k}", self.title());
+        Input { k, script, ..self }
+    }
+
+    /// With another rule at the script's last leaf: everything before it is right.
+    pub fn with_last_leaf_wrong(mut self) -> Self {
+        let last = self.script.len() - 2;
+        self.script[last] ^= 1;
+        self
     }
 
     /// The name of this record among those of other lengths.
@@ -142,8 +168,76 @@ pub fn sevens_and_eights(of_each: usize) -> Input {
     Input::new("two chains", two_chains(), &events)
 }
 
+/// The same with a grammar that has two rules for the whole.
+pub fn three_chains(of_each: usize) -> Input {
+    let image = grammars::three_chains();
+    let record = sevens_and_eights(of_each).named("three chains");
+    Input { image, ..record }
+}
+
+/// One reading, with the last split at every node.
+pub fn one_by_one(events: usize) -> Input {
+    Input::new("one by one", grammars::one_by_one(), &vec![7; events])
+}
+
+pub fn any_two(events: usize) -> Input {
+    Input::new("any two", grammars::any_two(), &vec![7; events])
+}
+
+/// Stops without a gap.
+pub fn forked(stops: usize) -> Input {
+    Input::new("forked", grammars::forked(), &[1, 2].repeat(stops))
+}
+
+/// Two stops, and their one reading.
 pub fn stops() -> Input {
-    Input::new("STOP", stop(), &[1, 2, 3, 1, 2, 3])
+    let script = [
+        3, 3, 5, 1, 0, 1, 6, 2, 1, 2, 2, 3, 4, 4, 0, 4, 6, 5, 1, 5, 2, 6,
+    ];
+    Input::new("STOP", stop(), &[1, 2, 3, 1, 2, 3]).with_script(&script)
+}
+
+/// Other readings that were worked out by hand: numbers and scripts.
+pub fn readings() -> [Input; 5] {
+    let readings: [(Input, u32, &[u16]); 5] = [
+        (sevens(1), 0, &[0, 1]),
+        (sevens(3), 0, &[1, 1, 0, 1, 1, 2, 0, 2, 0, 3]),
+        (sevens(3), 1, &[1, 2, 1, 1, 0, 1, 0, 2, 0, 3]),
+        (one_stop(), 0, &[4, 1, 0, 1, 6, 2, 1, 2, 2, 3]),
+        (quiet(1), 0, &[]),
+    ];
+    readings.map(|(input, k, script)| Input { k, ..input }.with_script(script))
+}
+
+/// Scripts that are wrong in one thing, most of them near those of CHAIN over three events.
+pub fn not_readings() -> [Input; 16] {
+    let scripts: [(Input, &[u16]); 16] = [
+        // Another length, also that of no script.
+        (sevens(3), &[1, 1, 0, 1, 1, 2, 0, 2, 0]),
+        (sevens(3), &[1, 1, 0, 1, 1, 2, 0, 2, 0, 3, 0]),
+        (sevens(3), &[1, 1, 0, 1, 0, 2]),
+        (sevens(3), &[]),
+        // An empty record has no reading where no flag says so, and with the flag only one.
+        (sevens(0), &[]),
+        (sevens(0), &[0, 1]),
+        (quiet(0), &[]),
+        (quiet(1), &[0, 1]),
+        // A split at an end of the stretch, a leaf's place, a rule of the other kind, and of none.
+        (sevens(3), &[1, 0, 0, 1, 1, 2, 0, 2, 0, 3]),
+        (sevens(3), &[1, 3, 1, 1, 0, 1, 0, 2, 0, 3]),
+        (sevens(3), &[1, 1, 0, 1, 1, 2, 0, 2, 0, 2]),
+        (sevens(3), &[1, 1, 1, 1, 1, 2, 0, 2, 0, 3]),
+        (sevens(3), &[2, 1, 0, 1, 1, 2, 0, 2, 0, 3]),
+        (sevens(3), &[u16::MAX; 10]),
+        // A stop that is no day, and an event that is not the rule's.
+        (one_stop(), &[5, 1, 0, 1, 6, 2, 1, 2, 2, 3]),
+        (one_stop(), &[4, 1, 0, 1, 6, 2, 1, 2, 1, 3]),
+    ];
+    scripts.map(|(input, script)| input.with_script(script))
+}
+
+fn one_stop() -> Input {
+    Input::new("STOP", stop(), &[1, 2, 3])
 }
 
 /// The records `half`, which is the generator's first that fills the chart about half, and `mixed`.

@@ -10,16 +10,20 @@ pub fn check(image: &[u8], events: &[u16], script: &[u16]) -> Checked {
         Ok(grammar) => grammar,
         Err(refusal) => return Checked::from(refusal),
     };
-    let n = events.len();
-    let fits = script.len() == script_words(n);
-    let follows = || match n {
-        0 => grammar.quiet,
-        _ => follows(&grammar, events, 0, 0, script),
-    };
     Checked {
         refusal: 0.into(),
-        yes: fits && follows(),
+        yes: is_reading(&grammar, events, script),
     }
+}
+
+/// Whether the words are the script of a reading.
+pub fn is_reading(grammar: &Grammar, events: &[u16], script: &[u16]) -> bool {
+    let n = events.len();
+    let follows = || match n {
+        0 => grammar.quiet,
+        _ => follows(grammar, events, 0, 0, script),
+    };
+    script.len() == script_words(n) && follows()
 }
 
 /// Whether the script is of a derivation of the symbol over these events, which begin at place

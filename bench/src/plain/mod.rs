@@ -5,8 +5,10 @@ mod by_left;
 mod check;
 mod count;
 mod count_skipping;
+mod filled;
 mod judge;
 mod judge_skipping;
+mod number;
 mod reading;
 
 pub use check::check;
@@ -14,6 +16,7 @@ pub use count::count;
 pub use count_skipping::count_skipping;
 pub use judge::judge;
 pub use judge_skipping::judge_skipping;
+pub use number::number;
 pub use reading::reading;
 
 use crate::answers::Refusal;

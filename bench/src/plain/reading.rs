@@ -1,7 +1,8 @@
 //! `reading`: fills the table and goes down from the whole record by its numbers.
 
 use super::count::{fill, test_table};
-use super::{cell, low_first, test, Grammar};
+use super::filled::Filled;
+use super::{low_first, test};
 use crate::answers::Refusal;
 use crate::sizes::{script_words, LIMIT};
 
@@ -40,20 +41,13 @@ fn read_or_refuse(
     if events.is_empty() {
         return Ok(());
     }
-    let source = Source {
+    let filled = Filled {
         grammar,
         events,
         table,
     };
-    source.write(0, 0, events.len(), k as u64, &mut script[..words]);
+    filled.write(0, 0, events.len(), k as u64, &mut script[..words]);
     Ok(())
-}
-
-/// What a script is written from.
-struct Source<'a> {
-    grammar: Grammar<'a>,
-    events: &'a [u16],
-    table: &'a [u32],
 }
 
 /// The readings of a stretch that begin with one pair rule and split.
@@ -65,7 +59,7 @@ struct Choice {
     number: u64,
 }
 
-impl Source<'_> {
+impl Filled<'_> {
     /// Writes the script of the derivation with this number among those of the symbol. A part whose
     /// count is cut off at the limit has more derivations than any number asks for: dividing by the
     /// limit gives 0 and leaves the number, as dividing by the true count would.
@@ -103,7 +97,7 @@ impl Source<'_> {
                 continue;
             }
             for split in i + 1..k {
-                let ways = self.ways(r[1], i, split) * self.ways(r[2], split, k);
+                let ways = self.ways_by(r, i, split, k);
                 if number < ways {
                     return Choice {
                         pair,
@@ -115,9 +109,5 @@ impl Source<'_> {
             }
         }
         unreachable!("the table counts more derivations than the number");
-    }
-
-    fn ways(&self, symbol: u8, i: usize, k: usize) -> u64 {
-        self.table[cell(i, k) * self.grammar.symbols + symbol as usize] as u64
     }
 }

@@ -4,6 +4,7 @@
 pub mod check;
 pub mod count;
 pub mod judge;
+pub mod number;
 pub mod reading;
 
 use crate::case::{verify, Case, Lent, Side};
@@ -14,10 +15,11 @@ use std::fmt::Debug;
 /// A name, and what compares the sides of the service and then times them in a number of rounds.
 pub type Service = (&'static str, fn(usize));
 
-pub const ALL: [Service; 4] = [
+pub const ALL: [Service; 5] = [
     ("judge", judge::run),
     ("count", count::run),
     ("reading", reading::run),
+    ("number", number::run),
     ("check", check::run),
 ];
 

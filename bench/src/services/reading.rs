@@ -33,29 +33,18 @@ fn timed() -> Vec<Case<Refusal>> {
         ]
     };
     let mut cases: Vec<_> = LENGTHS.into_iter().flat_map(long).collect();
-    cases.push(written(records::stops(), 0, &STOPS));
+    cases.push(written(records::stops()));
     cases
 }
-
-/// The one reading of the record `stops`.
-const STOPS: [u16; 22] = [
-    3, 3, 5, 1, 0, 1, 6, 2, 1, 2, 2, 3, 4, 4, 0, 4, 6, 5, 1, 5, 2, 6,
-];
 
 /// Other rows of the specification, and refusals.
 fn others() -> Vec<Case<Refusal>> {
     let sevens = records::sevens;
-    let mut one_stop = records::stops();
-    one_stop.events.truncate(3);
     let mut cases = at_fault();
+    cases.extend(records::readings().map(written));
     cases.extend([
-        written(sevens(1), 0, &[0, 1]),
-        written(sevens(3), 0, &[1, 1, 0, 1, 1, 2, 0, 2, 0, 3]),
-        written(sevens(3), 1, &[1, 2, 1, 1, 0, 1, 0, 2, 0, 3]),
-        written(one_stop, 0, &[4, 1, 0, 1, 6, 2, 1, 2, 2, 3]),
         numbered(sevens(20), 1_767_263_189, CHAIN),
         numbered(sevens(21), u32::MAX - 1, CHAIN),
-        written(records::quiet(1), 0, &[]),
         past(records::quiet(1), 1, 12),
         past(records::quiet(1), u32::MAX, 12),
         past(records::quiet(0), 0, 12),
@@ -70,27 +59,27 @@ fn others() -> Vec<Case<Refusal>> {
 }
 
 /// A reading whose script is known.
-fn written(input: Input, k: u32, script: &'static [u16]) -> Case<Refusal> {
-    let words = script.len();
-    answered(input, k).knowing(move |lent| lent.script[..words] == *script)
+fn written(input: Input) -> Case<Refusal> {
+    let script = input.script.clone();
+    answered(input).knowing(move |lent| lent.script[..script.len()] == script)
 }
 
 /// A reading in a grammar that gives a script's number.
 fn numbered(input: Input, k: u32, grammar: Alike) -> Case<Refusal> {
     let (Words { script, .. }, read) = (input.needs(), input.clone());
-    answered(input, k).knowing(move |lent| {
+    answered(Input { k, ..input }).knowing(move |lent| {
         let script = &lent.script[..script];
         let valid = plain::check(&read.image, &read.events, script).yes;
         valid && grammar.number_of(script, 0) == k as u128
     })
 }
 
-fn answered(input: Input, k: u32) -> Case<Refusal> {
+fn answered(input: Input) -> Case<Refusal> {
     let written = Words {
         chart: 0,
         ..input.needs()
     };
-    Case::new(Input { k, ..input }, written, 0.into())
+    Case::new(input, written, 0.into())
 }
 
 /// A number that no reading has: the table is filled all the same.
