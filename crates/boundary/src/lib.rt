@@ -5,6 +5,7 @@ ghost use Rattle.image.specs.Image.{imageRows, TestedIs};
 ghost use Rattle.chart.specs.Judge.{JudgeIs};
 ghost use Rattle.readings.specs.Count.{CountIs};
 ghost use Rattle.readings.specs.Reading.{ReadingIs};
+ghost use Rattle.readings.specs.Page.{PageIs};
 ghost use Rattle.readings.specs.Check.{CheckIs};
 ghost use Rattle.readings.specs.Number.{NumberIs};
 
@@ -85,6 +86,27 @@ pub extern "C" fn reader_reading(
     let read = readings::reading(image, events, k, table, room);
     *rule = read.rule;
     read.number
+}
+
+// Gives the readings from number k on as scripts, m of them or as many as there are.
+#[no_mangle]
+pub extern "C" fn reader_page(
+    image: &[u8],
+    events: &[u16],
+    k: u32,
+    m: u32,
+    table: &mut [u32],
+    room: &mut [u16],
+    rule: &mut u16,
+    written: &mut u32,
+) -> u8
+    ensures { λ n. ⌜ PageIs (now (image .entry)) (now (events .entry)) k m (now (table .entry)) (now (room .entry))
+        (record { number = n; rule = now (rule .exit); written = now (written .exit) }) (now (table .exit)) (now (room .exit)) ⌝ }
+{
+    let paged = readings::page(image, events, k, m, table, room);
+    *rule = paged.rule;
+    *written = paged.written;
+    paged.number
 }
 
 // Checks a script.

@@ -12,6 +12,7 @@ pub mod Scripts
 pub mod Readings
 pub mod Counts
 pub mod Numbering
+pub mod Pages
 pub mod Places
 pub mod Columns
 pub mod Cells

@@ -80,6 +80,10 @@ readings g w = gate (quietFits g w) (quiet ∷ []) ++ map derived (derivations g
 unfoldable pub scripts : Grammar → List ℕ → List (List ℕ)
 scripts g w = map spelling (readings g w)
 
+-- the scripts of readings number k to k + c - 1, one after the other
+unfoldable pub pageOf : Grammar → List ℕ → (k c : ℕ) → List ℕ
+pageOf g w k c = join c (λ x. spelling (getD (readings g w) (k + x) quiet))
+
 -- s is the script of reading number q
 pub record NumberOf (g : Grammar) (w s : List ℕ) (q : ℕ) : Type 0 where
   pub below : q < length (readings g w)

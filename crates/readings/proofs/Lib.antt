@@ -2,3 +2,4 @@ pub mod Refuses
 pub mod Only
 pub mod Numbered
 pub mod Undone
+pub mod Pages

@@ -28,22 +28,22 @@ use Rattle.readings.specs.Demand.{Gave, written, OneToOne}
 use Rattle.readings.proofs.Refuses.{lent-record, number-ok}
 
 module _ (b w : List ℕ) where
-  pub each : (k : ℕ) (table room : List ℕ) (r : Read) (t o : List ℕ) → First (lentRows b (length w) (length table) (length room)) 0
+  pub each : (k : ℕ) (table room : List ℕ) (r : Read) (t o : List ℕ) → First (lentRows b (length w) (length table) (scriptWords (length w)) (length room)) 0
       → k < howMany (decode b) w → k < limit → ReadingIs b w k table room r t o → r .number ≡ 0
   each k table room r t o h l m p =
       first-only (p .number)
-      (past-zero (lentRows b (length w) (length table) (length room)) _ (omega arith) 0 refl h (pass (inl l) (pass (λ y. omega (arith, y .last)) none)))
+      (past-zero (lentRows b (length w) (length table) (scriptWords (length w)) (length room)) _ (omega arith) 0 refl h (pass (inl l) (pass (λ y. omega (arith, y .last)) none)))
 
   module _ (k : ℕ) (o : List ℕ) (a : Gave b w k o) where
-    first : First (lentRows b (length w) (length (a .table)) (length (a .room))) 0
+    first : First (lentRows b (length w) (length (a .table)) (scriptWords (length w)) (length (a .room))) 0
     first =
-        reached (lentRows b (length w) (length (a .table)) (length (a .room))) (numberRows k (howMany (decode b) w)) 0 (omega arith)
+        reached (lentRows b (length w) (length (a .table)) (scriptWords (length w)) (length (a .room))) (numberRows k (howMany (decode b) w)) 0 (omega arith)
         (rw (a .success) at (a .is .number))
 
     bounds : (k < howMany (decode b) w) × (k < limit)
     bounds =
         number-ok k _ 0 refl
-        (passed (lentRows b (length w) (length (a .table)) (length (a .room))) (numberRows k (howMany (decode b) w)) 0 (omega arith) (rw (a .success) at (a .is .number)))
+        (passed (lentRows b (length w) (length (a .table)) (scriptWords (length w)) (length (a .room))) (numberRows k (howMany (decode b) w)) 0 (omega arith) (rw (a .success) at (a .is .number)))
         (a .small)
 
     below : k < howMany (decode b) w
@@ -64,7 +64,7 @@ module _ (b w : List ℕ) where
     -- the check of what is written says yes
     pub written-checked : (c : Checked) → CheckIs b w (written w o) c → (c .number ≡ 0) × (c .yes ≡ true)
     written-checked c q =
-        let z : c .number ≡ 0 = first-only (q .number) (lent-record b (length w) (length (a .table)) (length (a .room)) first) in
+        let z : c .number ≡ 0 = first-only (q .number) (lent-record b (length w) (length (a .table)) (scriptWords (length w)) (length (a .room)) first) in
         (z, yes (c .yes) (q .answered z))
       where
         yes : (y : Bool) → Decides y (IsReading (decode b) w (written w o)) → y ≡ true

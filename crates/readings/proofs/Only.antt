@@ -14,10 +14,12 @@ use Rattle.image.proofs.Named.{names-same}
 use Rattle.table.proofs.Tables.{filled-only}
 use Rattle.readings.specs.declared.Counted.{Counted}
 use Rattle.readings.specs.declared.Read.{Read}
+use Rattle.readings.specs.declared.Paged.{Paged}
 use Rattle.readings.specs.declared.Checked.{Checked}
 use Rattle.readings.specs.declared.Found.{Found}
 use Rattle.readings.specs.Count.{howMany, CountIs}
 use Rattle.readings.specs.Reading.{numberRows, Fills, ReadingIs}
+use Rattle.readings.specs.Page.{PageIs}
 use Rattle.readings.specs.Check.{CheckIs}
 use Rattle.readings.specs.Number.{scriptRows, NumberIs}
 use Rattle.readings.proofs.Refuses.{count-ok, lent-ok, early-past, count-early, lent-early}
@@ -27,6 +29,9 @@ counted-eq r s e m f = λ i. record { number = e i; rule = m i; total = f i }
 
 read-eq : (r s : Read) → r .number ≡ s .number → r .rule ≡ s .rule → r ≡ s
 read-eq r s e m = λ i. record { number = e i; rule = m i }
+
+paged-eq : (r s : Paged) → r .number ≡ s .number → r .rule ≡ s .rule → r .written ≡ s .written → r ≡ s
+paged-eq r s e m f = λ i. record { number = e i; rule = m i; written = f i }
 
 checked-eq : (r s : Checked) → r .number ≡ s .number → r .rule ≡ s .rule → r .yes ≡ s .yes → r ≡ s
 checked-eq r s e m f = λ i. record { number = e i; rule = m i; yes = f i }
@@ -73,7 +78,7 @@ reading-only b w k table room r s t u o v p q = (read-eq r s e (names-same e (p 
 
     -- a reading that gets as far as the table has an image with a symbol
     some : Fills (r .number) → 0 < decode b .symbols
-    some h = lent-ok b _ _ _ 0 refl (early-past _ (lent-early b _ _ _) (numberRows k (howMany (decode b) w)) (r .number) h (p .number)) .count .image .sound .range .some
+    some h = lent-ok b _ _ _ _ 0 refl (early-past _ (lent-early b _ _ _ _) (numberRows k (howMany (decode b) w)) (r .number) h (p .number)) .count .image .sound .range .some
 
     tables : Dec (Fills (r .number)) → t ≡ u
     tables (yes h) = filled-only (decode b) w table t u (some h) (p .filled h) (q .filled (subst Fills e h))
@@ -81,6 +86,30 @@ reading-only b w k table room r s t u o v p q = (read-eq r s e (names-same e (p 
 
     rooms : Dec (r .number ≡ 0) → o ≡ v
     rooms (yes z) = p .written z ∙ sym (q .written (sym e ∙ z))
+    rooms (no z) = p .unwritten z ∙ sym (q .unwritten (λ f. z (e ∙ f)))
+
+pub page-only : (b w : List ℕ) (k m : ℕ) (table room : List ℕ) (r s : Paged) (t u o v : List ℕ)
+    → PageIs b w k m table room r t o → PageIs b w k m table room s u v → (r ≡ s) × (t ≡ u) × (o ≡ v)
+page-only b w k m table room r s t u o v p q = (paged-eq r s e (names-same e (p .rule) (q .rule)) c, tables (fills? (r .number)), rooms (ℕ-discrete (r .number) 0))
+  where
+    e : r .number ≡ s .number
+    e = first-only (p .number) (q .number)
+
+    c : r .written ≡ s .written
+    c = elim (ℕ-discrete (r .number) 0) [
+      | yes z ↦ p .answered z ∙ sym (q .answered (sym e ∙ z))
+      | no z ↦ p .refused z ∙ sym (q .refused (λ f. z (e ∙ f)))
+    ]
+
+    some : Fills (r .number) → 0 < decode b .symbols
+    some h = lent-ok b _ _ _ _ 0 refl (early-past _ (lent-early b _ _ _ _) (numberRows k (howMany (decode b) w)) (r .number) h (p .number)) .count .image .sound .range .some
+
+    tables : Dec (Fills (r .number)) → t ≡ u
+    tables (yes h) = filled-only (decode b) w table t u (some h) (p .filled h) (q .filled (subst Fills e h))
+    tables (no h) = p .kept h ∙ sym (q .kept (λ f. h (subst Fills (sym e) f)))
+
+    rooms : Dec (r .number ≡ 0) → o ≡ v
+    rooms (yes z) = p .written z ∙ rw c (sym (q .written (sym e ∙ z)))
     rooms (no z) = p .unwritten z ∙ sym (q .unwritten (λ f. z (e ∙ f)))
 
 pub check-only : (b w s : List ℕ) (r t : Checked) → CheckIs b w s r → CheckIs b w s t → r ≡ t

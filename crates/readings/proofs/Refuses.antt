@@ -1,4 +1,4 @@
--- The refusal tables of count, reading and number: what the answer 0 gives, and which numbers and scripts the refusals 12 and 13 leave.
+-- The refusal tables of count, reading, page and number: what the answer 0 gives, and which numbers and scripts the refusals 12 and 13 leave.
 -- Assumes nothing.
 use mathlib.Core.Path.{_≡_, refl, subst, subst⁻¹}
 use mathlib.Core.Logic.{_⊎_, inl, inr, _≢_, ⊎-elim}
@@ -8,7 +8,6 @@ use native.Mathlib.Decide.{decLt}
 use native.Mathlib.Omega.{arith}
 use Rattle.bits.proofs.Each.{all-front, all-back}
 use Rattle.derivation.specs.Grammar.{Grammar}
-use Rattle.derivation.specs.Tree.{scriptWords}
 use Rattle.derivation.specs.Reading.{IsReading}
 use Rattle.derivation.specs.Derivations.{NumberOf}
 use Rattle.derivation.proofs.Numbering.{of-number, number-once}
@@ -30,9 +29,9 @@ pub record CountOk (b : List ℕ) (n size : ℕ) : Type 0 where
   pub few : n ≤ mostEvents
   pub fits : tableWords (decode b .symbols) n ≤ size
 
-pub record LentOk (b : List ℕ) (n size space : ℕ) : Type 0 where
+pub record LentOk (b : List ℕ) (n size need space : ℕ) : Type 0 where
   pub count : CountOk b n size
-  pub fits : scriptWords n ≤ space
+  pub fits : need ≤ space
 
 module _ (b : List ℕ) (n size : ℕ) where
   count-holds : AllHold (countRows b n size) → CountOk b n size
@@ -43,14 +42,14 @@ module _ (b : List ℕ) (n size : ℕ) where
   pub count-ok : (r : ℕ) → r ≡ 0 → First (countRows b n size) r → CountOk b n size
   count-ok r e p = count-holds (all-hold (countRows b n size) (omega arith) r e p)
 
-  module _ (space : ℕ) where
-    pub lent-ok : (r : ℕ) → r ≡ 0 → First (lentRows b n size space) r → LentOk b n size space
+  module _ (need space : ℕ) where
+    pub lent-ok : (r : ℕ) → r ≡ 0 → First (lentRows b n size need space) r → LentOk b n size need space
     lent-ok r e p =
-        let h = all-hold (lentRows b n size space) (omega arith) r e p in
-        record { count = count-holds (all-front demand (countRows b n size) (roomRows n space) h); fits = all-back demand (countRows b n size) (roomRows n space) h .0 }
+        let h = all-hold (lentRows b n size need space) (omega arith) r e p in
+        record { count = count-holds (all-front demand (countRows b n size) (roomRows need space) h); fits = all-back demand (countRows b n size) (roomRows need space) h .0 }
 
-    pub lent-record : First (lentRows b n size space) 0 → First (recordRows b n) 0
-    lent-record p = reached (recordRows b n) (tableRows b n size) 0 (omega arith) (reached (countRows b n size) (roomRows n space) 0 (omega arith) p)
+    pub lent-record : First (lentRows b n size need space) 0 → First (recordRows b n) 0
+    lent-record p = reached (recordRows b n) (tableRows b n size) 0 (omega arith) (reached (countRows b n size) (roomRows need space) 0 (omega arith) p)
 
 -- ---- refusals before the table is filled: after none of them it is, and an answer after which it is comes from behind them
 pub record Early (rows : List Row) : Type 0 where
@@ -74,8 +73,8 @@ module _ (rows : List Row) (e : Early rows) where
 pub count-early : (b : List ℕ) (n size : ℕ) → Early (countRows b n size)
 count-early b n size = record { zero = omega arith; twelve = omega arith; thirteen = omega arith }
 
-pub lent-early : (b : List ℕ) (n size space : ℕ) → Early (lentRows b n size space)
-lent-early b n size space = record { zero = omega arith; twelve = omega arith; thirteen = omega arith }
+pub lent-early : (b : List ℕ) (n size need space : ℕ) → Early (lentRows b n size need space)
+lent-early b n size need space = record { zero = omega arith; twelve = omega arith; thirteen = omega arith }
 
 -- ---- refusals 12 and 13, from the number of readings held at the limit
 module _ (k t m : ℕ) (e : t ≡ held m) where

@@ -30,7 +30,7 @@ written w room′ = take (scriptWords (length w)) room′
 
 pub record OneToOne (b w : List ℕ) : Type 0 where
   -- where image, record and lent memory pass, every number below the count and below the limit is answered
-  pub each : (k : ℕ) (table room : List ℕ) (r : Read) (t o : List ℕ) → First (lentRows b (length w) (length table) (length room)) 0
+  pub each : (k : ℕ) (table room : List ℕ) (r : Read) (t o : List ℕ) → First (lentRows b (length w) (length table) (scriptWords (length w)) (length room)) 0
       → k < howMany (decode b) w → k < limit → ReadingIs b w k table room r t o → r .number ≡ 0
   -- with the script of a reading
   pub reading : (k : ℕ) (o : List ℕ) → Gave b w k o → IsReading (decode b) w (written w o)

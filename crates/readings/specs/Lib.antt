@@ -4,3 +4,5 @@ pub mod Check
 pub mod Number
 pub mod Demand
 pub mod Undo
+pub mod Page
+pub mod Paging

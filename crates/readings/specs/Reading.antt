@@ -15,9 +15,9 @@ use Rattle.table.specs.Table.{limit, Filled}
 use Rattle.readings.specs.Count.{howMany, countRows}
 use Rattle.readings.specs.declared.Read.{Read}
 
--- refusal 11: n events, a room of space words
-abbrev pub roomRows : (n space : ℕ) → List Row
-roomRows n space = (11 unless (scriptWords n ≤ space)) ∷ []
+-- refusal 11: need words, a room of space words
+abbrev pub roomRows : (need space : ℕ) → List Row
+roomRows need space = (11 unless (need ≤ space)) ∷ []
 
 -- 13 applies to number k where there are m readings: k is the limit, and m is at least that
 pub record Beyond (k m : ℕ) : Type 0 where
@@ -29,11 +29,11 @@ abbrev pub numberRows : (k m : ℕ) → List Row
 numberRows k m = (12 unless ((k < m) ⊎ Beyond k m)) ∷ (13 unless (Beyond k m → ⊥)) ∷ []
 
 -- the refusals of the record, and then 10 and 11: nothing is written
-abbrev pub lentRows : (b : List ℕ) (n size space : ℕ) → List Row
-lentRows b n size space = countRows b n size ++ roomRows n space
+abbrev pub lentRows : (b : List ℕ) (n size need space : ℕ) → List Row
+lentRows b n size need space = countRows b n size ++ roomRows need space
 
 abbrev pub readingRows : (b w : List ℕ) (k : ℕ) (table room : List ℕ) → List Row
-readingRows b w k table room = lentRows b (length w) (length table) (length room) ++ numberRows k (howMany (decode b) w)
+readingRows b w k table room = lentRows b (length w) (length table) (scriptWords (length w)) (length room) ++ numberRows k (howMany (decode b) w)
 
 -- success and refusals 12 and 13 leave the table filled
 abbrev pub Fills : ℕ → Type 0

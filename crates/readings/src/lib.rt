@@ -1,8 +1,12 @@
-// The readings of a record: how many there are, reading number k, whether a script is that of a reading, and the number of one that is.
+// The readings of a record: how many there are, reading number k, those from number k on, whether a script is that of a reading, and the
+// number of one that is.
 mod refuse; // the refusals
 
+ghost use mathlib.Core.Path.{_≡_};
+ghost use Prim.Native.Nat.{_-_, _≤_, min};
 ghost use Rattle.readings.specs.Count.{CountIs};
 ghost use Rattle.readings.specs.Reading.{ReadingIs};
+ghost use Rattle.readings.specs.Page.{PageIs};
 ghost use Rattle.readings.specs.Check.{CheckIs};
 ghost use Rattle.readings.specs.Number.{NumberIs};
 
@@ -17,6 +21,13 @@ pub struct Counted {
 pub struct Read {
     pub number: u8,
     pub rule: u16,
+}
+
+// What a page answers: a refusal with 0, or 0 with the number of scripts written.
+pub struct Paged {
+    pub number: u8,
+    pub rule: u16,
+    pub written: u32,
 }
 
 // What checking answers: a refusal with no, or 0 with yes or no.
@@ -62,7 +73,7 @@ pub fn reading(image: &[u8], events: &[u16], k: u32, table: &mut [u32], room: &m
         r (now (table .exit)) (now (room .exit)) ⌝ }
 {
     let n = events.len();
-    let early = refuse::lent_refusal(image, n, table.len(), room.len());
+    let early = refuse::lent_refusal(image, n, table.len(), 1, room.len());
     let number = early.number;
     if number != 0 {
         return Read {
@@ -81,6 +92,59 @@ pub fn reading(image: &[u8], events: &[u16], k: u32, table: &mut [u32], room: &m
     }
     unrank::write_reading(image, events, table, k, room);
     Read { number: 0, rule: 0 }
+}
+
+// How many of the numbers k to k + m - 1 are below the total.
+fn page_size(k: u32, m: u32, total: u32) -> u32
+    requires { ⌜ k ≤ total ⌝ }
+    ensures { λ r. ⌜ r ≡ min m (total - k) ⌝ }
+{
+    let left = total - k;
+    if m < left {
+        return m;
+    }
+    left
+}
+
+// Writes the scripts of the readings from number k on to the front of the room, m of them or as many as there are, and fills the table.
+pub fn page(
+    image: &[u8],
+    events: &[u16],
+    k: u32,
+    m: u32,
+    table: &mut [u32],
+    room: &mut [u16],
+) -> Paged
+    ensures { λ r. ⌜ PageIs (now (image .entry)) (now (events .entry)) k m (now (table .entry)) (now (room .entry))
+        r (now (table .exit)) (now (room .exit)) ⌝ }
+{
+    let n = events.len();
+    let lent = refuse::lent_refusal(image, n, table.len(), m, room.len());
+    let number = lent.number;
+    if number != 0 {
+        return Paged {
+            number,
+            rule: lent.rule,
+            written: 0,
+        };
+    }
+    table::fill_table(image, events, table);
+    let total = table::total_in(image, events, table);
+    let late = refuse::number_refusal(k, total);
+    if late != 0 {
+        return Paged {
+            number: late,
+            rule: 0,
+            written: 0,
+        };
+    }
+    let written = page_size(k, m, total);
+    pages::write_page(image, events, table, k, written, room);
+    Paged {
+        number: 0,
+        rule: 0,
+        written,
+    }
 }
 
 // Whether the words are the script of a reading.

@@ -1,7 +1,8 @@
-// The refusals of count, with which those of reading and number begin, and what reading has behind them.
+// The refusals of count, with which those of reading, page and number begin, and what reading and page have behind them.
 use image::Refusal;
 ghost use mathlib.Core.Path.{_≡_};
-ghost use Prim.Native.Nat.{ℕ};
+ghost use Prim.Native.Nat.{ℕ, _*_};
+ghost use Rattle.derivation.specs.Tree.{scriptWords};
 ghost use Rattle.layout.specs.Layout.{decode};
 ghost use Rattle.image.specs.Refusal.{First};
 ghost use Rattle.image.specs.Image.{RefusalIs};
@@ -31,16 +32,16 @@ pub fn count_refusal(image: &[u8], n: usize, size: usize) -> Refusal
     Refusal { number: 0, rule: 0 }
 }
 
-// The refusals of the record, and then 10 and 11, or 0.
-pub fn lent_refusal(image: &[u8], n: usize, size: usize, space: usize) -> Refusal
-    ensures { λ r. ⌜ RefusalIs (lentRows (now (image .entry)) n size space) (decode (now (image .entry))) r ⌝ }
+// The refusals of the record, and then 10, and 11 for a room of m scripts, or 0.
+pub fn lent_refusal(image: &[u8], n: usize, size: usize, m: u32, space: usize) -> Refusal
+    ensures { λ r. ⌜ RefusalIs (lentRows (now (image .entry)) n size (m * scriptWords n) space) (decode (now (image .entry))) r ⌝ }
 {
     let early = count_refusal(image, n, size);
     let number = early.number;
     if number != 0 {
         return early;
     }
-    let need = derivation::script_words(n);
+    let need = m as usize * derivation::script_words(n);
     if space < need {
         return Refusal {
             number: 11,

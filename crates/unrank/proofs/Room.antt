@@ -28,14 +28,14 @@ tail a l = take (length l - a) (drop a l)
 abbrev pub back : ℕ → List ℕ → List ℕ → List ℕ
 back a l y = take a l ++ (y ++ drop (length l - a) (drop a l))
 
-tail-is : (a : ℕ) (l : List ℕ) → tail a l ≡ drop a l
+pub tail-is : (a : ℕ) (l : List ℕ) → tail a l ≡ drop a l
 tail-is a l = take-all (length l - a) (drop a l) (simp length-drop (omega arith))
 
-tail-length : (a : ℕ) (l : List ℕ) → length (tail a l) ≡ length l - a
+pub tail-length : (a : ℕ) (l : List ℕ) → length (tail a l) ≡ length l - a
 tail-length a l = rw tail-is (length-drop a l)
 
 -- s was written to the front of the tail q of l
-back-is : (a : ℕ) (l p q s y : List ℕ) (m : ℕ) → l ≡ p ++ q → length p ≡ a → y ≡ s ++ drop m (tail a l) → back a l y ≡ (p ++ s) ++ drop m q
+pub back-is : (a : ℕ) (l p q s y : List ℕ) (m : ℕ) → l ≡ p ++ q → length p ≡ a → y ≡ s ++ drop m (tail a l) → back a l y ≡ (p ++ s) ++ drop m q
 back-is a l p q s y m e n d =
     let t : drop a l ≡ q = rw e (drop-at p q a n) in
     let f : take a l ≡ p = rw e (take-at p q a n) in

@@ -17,7 +17,7 @@ ghost use Rattle.table.specs.Table.{limit};
 ghost use Rattle.table.specs.Fill.{CountsIn};
 
 // The two words of a node.
-fn put_root(room: &mut [u16], rule: usize, split: usize)
+pub fn put_root(room: &mut [u16], rule: usize, split: usize)
     requires { ⌜ (2 ≤ length (now room)) × (rule < 65536) × (split < 65536) ⌝ }
     ensures { λ _. ⌜ now (room .exit) ≡ rule ∷ split ∷ drop 2 (now (room .entry)) ⌝ }
 {
@@ -27,7 +27,7 @@ fn put_root(room: &mut [u16], rule: usize, split: usize)
 
 // Writes the script of derivation number `rank` of the symbol over i to k to the front of the room: the left part behind the root, and
 // the right part from the middle of the room onward.
-fn write_script(
+pub fn write_script(
     image: &[u8],
     events: &[u16],
     table: &[u32],

@@ -3,8 +3,10 @@
 use mathlib.Core.Path.{refl}
 use mathlib.Core.List.{List, _++_}
 use Prim.Native.Nat.{ℕ}
+use native.Mathlib.Nat.{one-mul}
 use native.Mathlib.Omega.{arith}
 use lib.ListN.{length}
+use Rattle.derivation.specs.Tree.{scriptWords}
 use Rattle.image.specs.Refusal.{Row, First}
 use Rattle.image.proofs.Refusals.{first-hit, past-zero}
 use Rattle.table.proofs.Tables.{counts-in}
@@ -16,15 +18,19 @@ use Rattle.readings.proofs.reading.Tie as tie
 
 -- the early refusals, and what they leave
 abbrev early : tie.Start → List Row
-early s = lentRows (s .args .image .now) (length (s .args .events .now)) (length (s .args .table .now)) (length (s .args .room .now))
+early s = lentRows (s .args .image .now) (length (s .args .events .now)) (length (s .args .table .now)) (scriptWords (length (s .args .events .now))) (length (s .args .room .now))
+
+-- judged on one script
+first : (c : tie.After-lent-refusal) → First (early (c .before .before .before .before .before)) (c .lent-refusal .result .number)
+first c = rw one-mul at (c .lent-refusal .ensures .number)
 
 ok : (c : tie.Else1) → let s = c .before .before .before .before .before .before .args in
-    LentOk (s .image .now) (length (s .events .now)) (length (s .table .now)) (length (s .room .now))
-ok c = lent-ok _ _ _ _ _ (c .if1 .left) (c .before .lent-refusal .ensures .number)
+    LentOk (s .image .now) (length (s .events .now)) (length (s .table .now)) (scriptWords (length (s .events .now))) (length (s .room .now))
+ok c = lent-ok _ _ _ _ _ _ (c .if1 .left) (first (c .before))
 
 -- past them the late ones decide
 late : (c : tie.Else1) {more : List Row} {n : ℕ} → First more n → First (early (c .before .before .before .before .before .before) ++ more) n
-late c p = past-zero (early (c .before .before .before .before .before .before)) _ (omega arith) _ (c .if1 .left) (c .before .lent-refusal .ensures .number) p
+late c p = past-zero (early (c .before .before .before .before .before .before)) _ (omega arith) _ (c .if1 .left) (first (c .before)) p
 
 lent-refusal-requires : tie.Need-lent-refusal-requires
 lent-refusal-requires c κs = search needs
@@ -32,11 +38,11 @@ lent-refusal-requires c κs = search needs
 returns : tie.Need-returns
 returns c =
     let s = c .before .before .before .before .before .before in
-    let p = c .before .lent-refusal .ensures in
+    let p = first (c .before) in
     record {
-      number = first-hit (early s) _ (c .if1 .taken) (p .number);
-      rule = p .rule;
-      filled = λ h. absurd (early-keeps (early s) (lent-early (s .args .image .now) _ _ _) _ (c .if1 .taken) (p .number) h);
+      number = first-hit (early s) _ (c .if1 .taken) p;
+      rule = c .before .lent-refusal .ensures .rule;
+      filled = λ h. absurd (early-keeps (early s) (lent-early (s .args .image .now) _ _ _ _) _ (c .if1 .taken) p h);
       kept = λ _. refl;
       written = λ z. absurd (c .if1 .taken z);
       unwritten = λ _. refl;
