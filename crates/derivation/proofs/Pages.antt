@@ -21,7 +21,7 @@ module _ (g : Grammar) (w : List ℕ) where
   abbrev W : ℕ
   W = scriptWords (length w)
 
-  script-long : (q : ℕ) → q < length (readings g w) → length (spelling (getD (readings g w) q quiet)) ≡ W
+  pub script-long : (q : ℕ) → q < length (readings g w) → length (spelling (getD (readings g w) q quiet)) ≡ W
   script-long q h = spelling-length g w _ (readings-numbered g w .gives q h)
 
   pub page-none : (k : ℕ) → pageOf g w k 0 ≡ []

@@ -105,13 +105,15 @@ module _ (g : Grammar) (ok : Sound g) (w t : List ℕ) (A i k n : ℕ) (r : Read
           let hx = left-place limit (lit< tt) (count g w B i j) R m chosen-in chosen-small in
           let hy = right-place limit (lit< tt) (count g w B i j) R m chosen-in chosen-small in
           record {
-            after = c .split .after;
-            before = c .split .before;
-            word = fit;
-            left-some = rw e hx;
-            left-small = lt-of-le-of-lt (div-le-self m x) chosen-small;
-            right-some = rw e hy;
-            right-small = lt-of-le-of-lt (mod-le m x) chosen-small;
+            parts = record {
+              after = c .split .after;
+              before = c .split .before;
+              word = fit;
+              left-some = rw e hx;
+              left-small = lt-of-le-of-lt (div-le-self m x) chosen-small;
+              right-some = rw e hy;
+              right-small = lt-of-le-of-lt (mod-le m x) chosen-small;
+            };
             root = rw e (ap (λ (y : ℕ). getD (derivations g w A i k) y none)
                 (chosen-place ∙ ap (λ (y : ℕ). sum q (byPair g w A i k) + (between i j (bySplit g w A i k q) + y)) (whole limit (lit< tt) (count g w B i j) R m chosen-in chosen-small))
                 ∙ node-at g w A i k q j (c .known) (c .split .after) (c .split .before) (m / held R) (m % held R) (c .symbol) hx hy);

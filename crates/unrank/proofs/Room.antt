@@ -14,7 +14,7 @@ use Rattle.derivation.proofs.Lists.{in-getD}
 use Rattle.derivation.proofs.Exact.{derivations-sound}
 use Rattle.derivation.proofs.Scripts.{script-length}
 use Rattle.unrank.specs.declared.choose.Plan.{Plan}
-use Rattle.unrank.specs.Choice.{Planned}
+use Rattle.unrank.specs.Choice.{PlanOk, planTree}
 
 pub root-set : (l : List ℕ) (r j : ℕ) → 2 ≤ length l → set (set l 0 r) 1 j ≡ r ∷ j ∷ drop 2 l
 root-set [] r j h = absurd (omega arith)
@@ -72,7 +72,7 @@ head a x m p q = omega arith
 filled : (a n : ℕ) → a ≤ n → a + (n - a) ≡ n
 filled a n h = omega arith
 
-module _ (g : Grammar) (w : List ℕ) (A i k n : ℕ) (q : Plan) (p : Planned g w A i k n q)
+module _ (g : Grammar) (w : List ℕ) (i k : ℕ) (q : Plan) (p : PlanOk g w i k q)
     (room l : List ℕ) (e : l ≡ q .rule ∷ q .split ∷ drop 2 room) (fit : scriptWords (k - i) ≤ length room) where
   abbrev r : ℕ
   r = q .rule
@@ -88,6 +88,9 @@ module _ (g : Grammar) (w : List ℕ) (A i k n : ℕ) (q : Plan) (p : Planned g 
 
   first-words : length first ≡ scriptWords (j - i)
   first-words = script-words g w (q .left) i j (q .first) (p .left-some)
+
+  second-words : length second ≡ scriptWords (k - j)
+  second-words = script-words g w (q .right) j k (q .second) (p .right-some)
 
   whole : scriptWords (k - i) ≡ 2 + (scriptWords (j - i) + scriptWords (k - j))
   whole = omega (arith, p .after, p .before)
@@ -121,13 +124,17 @@ module _ (g : Grammar) (w : List ℕ) (A i k n : ℕ) (q : Plan) (p : Planned g 
     fit-second = rw (tail-length, after-length, middle) (fits-two (scriptWords (j - i)) (scriptWords (k - j)) (length room) room-fits)
 
     module _ (x : List ℕ) (f : x ≡ second ++ drop (scriptWords (k - j)) (tail (4 * (j - i)) (back 2 l y))) where
-      pub end : back (4 * (j - i)) (back 2 l y) x ≡ script (getD (derivations g w A i k) n none) ++ drop (scriptWords (k - i)) room
+      pub end : back (4 * (j - i)) (back 2 l y) x ≡ script (planTree g w i k q) ++ drop (scriptWords (k - i)) room
       unfolding script
       end = back-is (4 * (j - i)) (back 2 l y) ((r ∷ j ∷ []) ++ first) (drop (scriptWords (j - i)) (drop 2 room)) second x (scriptWords (k - j)) after (head (scriptWords (j - i)) (length first) (4 * (j - i)) middle first-words) f
-          ∙ rw (p .root, drop-drop, drop-drop, whole)
+          ∙ rw (drop-drop, drop-drop, whole)
 
-      pub end-length : n < count g w A i k → length (back (4 * (j - i)) (back 2 l y) x) ≡ length room
-      end-length h = ap length end ∙ simp (length-append, length-drop) (rw (script-words g w A i k n h) (filled (scriptWords (k - i)) (length room) fit))
+      plan-words : length (script (planTree g w i k q)) ≡ scriptWords (k - i)
+      unfolding script
+      plan-words = ap (λ (n : ℕ). suc (suc n)) (length-append first second) ∙ rw (first-words, second-words, whole) (omega arith)
+
+      pub end-length : length (back (4 * (j - i)) (back 2 l y) x) ≡ length room
+      end-length = ap length end ∙ simp (length-append, length-drop) (rw plan-words (filled (scriptWords (k - i)) (length room) fit))
 
 -- one event: the root is all
 pub leaf-end : (g : Grammar) (w : List ℕ) (A i k n r : ℕ) (room l : List ℕ) → k ≡ i + 1 → l ≡ r ∷ k ∷ drop 2 room

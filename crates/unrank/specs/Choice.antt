@@ -8,7 +8,7 @@ use Prim.Native.Nat.{ℕ, _+_, _<_}
 use lib.ListN.{getD}
 use Rattle.bits.specs.Sum.{sum, between}
 use Rattle.derivation.specs.Grammar.{Grammar, leafCount, pairCount, eventRule, pairRule}
-use Rattle.derivation.specs.Tree.{node}
+use Rattle.derivation.specs.Tree.{Tree, node}
 use Rattle.derivation.specs.Derivations.{derivations, count}
 use Rattle.derivation.specs.Numbering.{none}
 use Rattle.table.specs.Table.{limit}
@@ -47,8 +47,8 @@ pub record ChosenLeaf (g : Grammar) (x A n r : ℕ) : Type 0 where
   pub event : eventRule g r .event ≡ x
   pub place : n ≡ sum r (leafAdds g x A)
 
--- derivation number n of A over i to k: its root's rule and split, and the symbol and number of each part
-pub record Planned (g : Grammar) (w : List ℕ) (A i k n : ℕ) (p : Plan) : Type 0 where
+-- a plan of a derivation over i to k whose parts there are
+pub record PlanOk (g : Grammar) (w : List ℕ) (i k : ℕ) (p : Plan) : Type 0 where
   pub after : i < p .split
   pub before : p .split < k
   pub word : p .rule < 65536
@@ -56,5 +56,13 @@ pub record Planned (g : Grammar) (w : List ℕ) (A i k n : ℕ) (p : Plan) : Typ
   pub left-small : p .first < limit
   pub right-some : p .second < count g w (p .right) (p .split) k
   pub right-small : p .second < limit
-  pub root : getD (derivations g w A i k) n none
-      ≡ node (p .rule) (p .split) (getD (derivations g w (p .left) i (p .split)) (p .first) none) (getD (derivations g w (p .right) (p .split) k) (p .second) none)
+
+-- the derivation that it is of
+abbrev pub planTree : Grammar → List ℕ → (i k : ℕ) → Plan → Tree
+planTree g w i k p =
+    node (p .rule) (p .split) (getD (derivations g w (p .left) i (p .split)) (p .first) none) (getD (derivations g w (p .right) (p .split) k) (p .second) none)
+
+-- it is of derivation number n of A
+pub record Planned (g : Grammar) (w : List ℕ) (A i k n : ℕ) (p : Plan) : Type 0 where
+  pub parts : PlanOk g w i k p
+  pub root : getD (derivations g w A i k) n none ≡ planTree g w i k p

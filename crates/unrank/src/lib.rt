@@ -1,6 +1,7 @@
 // From a number to the script of the reading that has it. The table has to be filled.
-mod choose; // which rule and split a number is by
+pub mod choose; // which rule and split a number is by
 
+use choose::Plan;
 use choose::choose_leaf;
 use choose::make_plan;
 ghost use mathlib.Core.Path.{_≡_};
@@ -15,6 +16,7 @@ ghost use Rattle.layout.specs.Layout.{decode};
 ghost use Rattle.image.specs.Image.{Accepted};
 ghost use Rattle.table.specs.Table.{limit};
 ghost use Rattle.table.specs.Fill.{CountsIn};
+ghost use Rattle.unrank.specs.Choice.{PlanOk, planTree};
 
 // The two words of a node.
 pub fn put_root(room: &mut [u16], rule: usize, split: usize)
@@ -25,8 +27,41 @@ pub fn put_root(room: &mut [u16], rule: usize, split: usize)
     room[1] = split as u16;
 }
 
-// Writes the script of derivation number `rank` of the symbol over i to k to the front of the room: the left part behind the root, and
-// the right part from the middle of the room onward.
+// Writes the script of the derivation that a plan is of, over i to k, to the front of the room: the left part behind the root, and the
+// right part from the middle of the room onward.
+pub fn write_plan(
+    image: &[u8],
+    events: &[u16],
+    table: &[u32],
+    i: usize,
+    k: usize,
+    p: Plan,
+    room: &mut [u16],
+)
+    requires { ⌜ Accepted (now image) ⌝ }
+    requires { ⌜ CountsIn (decode (now image)) (now events) (now table) ⌝ }
+    requires { ⌜ (k ≤ length (now events)) × (k < 65536) × (scriptWords (k - i) ≤ length (now room)) ⌝ }
+    requires { ⌜ PlanOk (decode (now image)) (now events) i k p ⌝ }
+    ensures { λ _. ⌜ now (room .exit) ≡
+        spell (planTree (decode (now (image .entry))) (now (events .entry)) i k p) ++ drop (scriptWords (k - i)) (now (room .entry)) ⌝ }
+{
+    let j = p.split;
+    put_root(room, p.rule, j);
+    write_script(image, events, table, p.left, i, j, p.first, &mut room[2..]);
+    let mid = 4 * (j - i);
+    write_script(
+        image,
+        events,
+        table,
+        p.right,
+        j,
+        k,
+        p.second,
+        &mut room[mid..],
+    );
+}
+
+// Writes the script of derivation number `rank` of the symbol over i to k to the front of the room.
 pub fn write_script(
     image: &[u8],
     events: &[u16],
@@ -52,20 +87,7 @@ pub fn write_script(
         return;
     }
     let p = make_plan(image, events, table, symbol, i, k, rank);
-    let j = p.split;
-    put_root(room, p.rule, j);
-    write_script(image, events, table, p.left, i, j, p.first, &mut room[2..]);
-    let mid = 4 * (j - i);
-    write_script(
-        image,
-        events,
-        table,
-        p.right,
-        j,
-        k,
-        p.second,
-        &mut room[mid..],
-    );
+    write_plan(image, events, table, i, k, p, room);
 }
 
 // Writes the script of reading number k to the front of the room; that of an empty record has no words.
