@@ -1,6 +1,6 @@
-/* All six services on CHAIN and the record 7 7 7, and on CHAIN in version 2 with the flag 1 and a record without events; and the test of
-   CHAIN with its event rule twice, which names rule 1, and of CHAIN with a second symbol that a rule names and none can finish. What is
-   written is the specification's. */
+/* All seven services on CHAIN and the record 7 7 7, and on CHAIN in version 2 with the flag 1 and a record without events; and the test
+   of CHAIN with its event rule twice, which names rule 1, and of CHAIN with a second symbol that a rule names and none can finish. What
+   is written is the specification's. */
 #include "reader.h"
 #include <stdio.h>
 
@@ -18,13 +18,18 @@ static void test(const uint8_t *image, size_t length)
     printf("test %u: %u %zu %zu %zu\n", number, rule, symbols, leaves, pairs);
 }
 
+static size_t script_words(size_t n)
+{
+    return n == 0 ? 0 : 2 * (2 * n - 1);
+}
+
 /* The first n events. Memory for three of them is lent; one symbol needs as many table words as chart words. */
 static void read_record(const uint8_t *image, size_t length, size_t n)
 {
     uint64_t chart[6], items, firings;
     uint32_t table[6], total, reading;
     uint16_t script[11] = {0}, rule;
-    size_t words = n == 0 ? 0 : 2 * (2 * n - 1);
+    size_t words = script_words(n);
     bool admitted, yes;
     unsigned number = reader_judge(image, length, events, n, chart, 6, &rule, &admitted, &items, &firings);
     printf("judge %u: %u %d %llu %llu\n", number, rule, admitted, (unsigned long long)items, (unsigned long long)firings);
@@ -45,6 +50,22 @@ static void read_record(const uint8_t *image, size_t length, size_t n)
     printf("number %u: %u %u\n", number, rule, reading);
 }
 
+/* Readings k to k + m - 1 of the first n events, into so many words of a room that holds five scripts; a comma before each script. */
+static void read_page(const uint8_t *image, size_t length, size_t n, uint32_t k, uint32_t m, size_t lent)
+{
+    uint32_t table[6], written;
+    uint16_t room[50], rule;
+    size_t words = script_words(n);
+    unsigned number = reader_page(image, length, events, n, k, m, table, 6, room, lent, &rule, &written);
+    printf("page %u %u %u: %u %u", k, m, number, rule, written);
+    for (size_t script = 0; script < written; script++) {
+        printf(",");
+        for (size_t x = 0; x < words; x++)
+            printf(" %u", room[script * words + x]);
+    }
+    printf("\n");
+}
+
 int main(void)
 {
     test(chain, sizeof chain);
@@ -52,6 +73,12 @@ int main(void)
     test(twice, sizeof twice);
     test(misspelt, sizeof misspelt);
     read_record(chain, sizeof chain, 3);
+    read_page(chain, sizeof chain, 3, 0, 2, 20);
+    read_page(chain, sizeof chain, 3, 1, 5, 50);
+    read_page(chain, sizeof chain, 3, 0, 0, 0);
+    read_page(chain, sizeof chain, 3, 2, 1, 10);
+    read_page(chain, sizeof chain, 3, 0, 2, 19);
     read_record(quiet, sizeof quiet, 0);
+    read_page(quiet, sizeof quiet, 0, 0, 1, 0);
     return 0;
 }

@@ -2,8 +2,9 @@
    pointer with the length 0 is not read but must not be null. Each answers its refusal number, or 0, and the rest of its answer
    through the pointers behind the slices, which are always written: zeros on a refusal, but that refusals 6 and 7 give the first rule
    at fault as the rule, numbered as the rules stand in the image; with every other answer the rule is 0. For n events a chart needs
-   n(n + 1)/2 words, a table as many for each symbol, and a room 2(2n - 1), or none where n is 0. reader_judge, reader_count,
-   reader_reading and reader_number take about 110 kB of stack. docs/STATEMENTS.md says what each function promises. */
+   n(n + 1)/2 words, a table as many for each symbol, and the room for a script 2(2n - 1), or none where n is 0; the room for a page
+   of m scripts m times as many. reader_judge, reader_count, reader_reading, reader_page and reader_number take about 110 kB of stack.
+   docs/STATEMENTS.md says what each function promises. */
 #ifndef READER_H
 #define READER_H
 #include <stdbool.h>
@@ -27,6 +28,13 @@ uint8_t reader_reading(const uint8_t *image, size_t image_len,
                        const uint16_t *events, size_t events_len, uint32_t k,
                        uint32_t *table, size_t table_len,
                        uint16_t *room, size_t room_len, uint16_t *rule);
+
+/* Readings k to k + m - 1, one script behind the other; fewer are written where the numbers end. */
+uint8_t reader_page(const uint8_t *image, size_t image_len,
+                    const uint16_t *events, size_t events_len, uint32_t k, uint32_t m,
+                    uint32_t *table, size_t table_len,
+                    uint16_t *room, size_t room_len,
+                    uint16_t *rule, uint32_t *written);
 
 uint8_t reader_check(const uint8_t *image, size_t image_len,
                      const uint16_t *events, size_t events_len,

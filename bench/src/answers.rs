@@ -23,6 +23,13 @@ pub struct Counted {
 }
 
 #[derive(Debug, Default, PartialEq)]
+pub struct Paged {
+    pub refusal: Refusal,
+    /// The scripts written.
+    pub written: u32,
+}
+
+#[derive(Debug, Default, PartialEq)]
 pub struct Numbered {
     pub refusal: Refusal,
     /// The number of the reading.
@@ -53,6 +60,15 @@ impl From<Refusal> for Judged {
 impl From<Refusal> for Counted {
     fn from(refusal: Refusal) -> Self {
         Counted { refusal, total: 0 }
+    }
+}
+
+impl From<Refusal> for Paged {
+    fn from(refusal: Refusal) -> Self {
+        Paged {
+            refusal,
+            written: 0,
+        }
     }
 }
 

@@ -1,7 +1,7 @@
 //! The proved services, called through the C functions of the archive; `archive` says why every
 //! call is sound.
 
-use crate::answers::{Checked, Numbered, Refusal};
+use crate::answers::{Checked, Numbered, Paged, Refusal};
 use crate::archive::{judge_and_count, NO_RULE};
 
 judge_and_count!("boundary", "reader_judge", "reader_count");
@@ -18,6 +18,21 @@ extern "C" {
         script: *mut u16,
         script_len: usize,
         rule: *mut u16,
+    ) -> u8;
+
+    fn reader_page(
+        image: *const u8,
+        image_len: usize,
+        events: *const u16,
+        events_len: usize,
+        k: u32,
+        m: u32,
+        table: *mut u32,
+        table_len: usize,
+        room: *mut u16,
+        room_len: usize,
+        rule: *mut u16,
+        written: *mut u32,
     ) -> u8;
 
     fn reader_number(
@@ -71,9 +86,43 @@ pub fn reading(
     Refusal { number, rule }
 }
 
-pub fn number(image: &[u8], events: &[u16], script: &[u16], table: &mut [u32]) -> Numbered {
+pub fn page(
+    image: &[u8],
+    events: &[u16],
+    k: u32,
+    m: u32,
+    table: &mut [u32],
+    room: &mut [u16],
+) -> Paged {
     let mut rule = NO_RULE;
     // No refusal and no case answers this, so that a number left unwritten is seen.
+    let mut written = 0xDEAD_BEEF;
+    // SAFETY: as said of every call.
+    let number = unsafe {
+        reader_page(
+            image.as_ptr(),
+            image.len(),
+            events.as_ptr(),
+            events.len(),
+            k,
+            m,
+            table.as_mut_ptr(),
+            table.len(),
+            room.as_mut_ptr(),
+            room.len(),
+            &mut rule,
+            &mut written,
+        )
+    };
+    Paged {
+        refusal: Refusal { number, rule },
+        written,
+    }
+}
+
+pub fn number(image: &[u8], events: &[u16], script: &[u16], table: &mut [u32]) -> Numbered {
+    let mut rule = NO_RULE;
+    // As above.
     let mut reading = 0xDEAD_BEEF;
     // SAFETY: as said of every call.
     let number = unsafe {

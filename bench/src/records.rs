@@ -19,6 +19,8 @@ pub struct Input {
     pub image: Vec<u8>,
     pub events: Vec<u16>,
     pub k: u32,
+    /// The scripts that a page is to have.
+    pub m: u32,
     pub script: Vec<u16>,
 }
 
@@ -37,6 +39,7 @@ impl Input {
             image,
             events: events.to_vec(),
             k: 0,
+            m: 1,
             script: Vec::new(),
         }
     }
@@ -77,7 +80,7 @@ impl Input {
         Words {
             chart: cells(n),
             table: cells(n) * self.image[5] as usize,
-            script: script_words(n),
+            script: self.m as usize * script_words(n),
         }
     }
 

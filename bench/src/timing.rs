@@ -113,6 +113,10 @@ pub fn explain(rounds: usize) {
     println!(
         "before is the proved code of another commit; skipping is plain Rust for sparse records"
     );
+    println!(
+        "afresh and stepping are plain Rust, a page by each number anew and from reading to reading; \
+         singly is our reading, called for each"
+    );
     println!("steps are the splits of all stretches, for check the events");
 }
 

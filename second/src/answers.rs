@@ -45,3 +45,11 @@ pub struct Numbered {
     pub rule: u16,
     pub reading: u32,
 }
+
+#[derive(Clone, Copy, Debug, Default, PartialEq)]
+pub struct Paged {
+    pub number: u8,
+    pub rule: u16,
+    /// How many scripts are written.
+    pub written: u32,
+}

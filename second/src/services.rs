@@ -1,6 +1,6 @@
-//! The six services.
+//! The seven services.
 
-pub use crate::answers::{Checked, Counted, Judged, Numbered, Read, Tested};
+pub use crate::answers::{Checked, Counted, Judged, Numbered, Paged, Read, Tested};
 use crate::derive::{cell, cells, derivable, firings, stretches};
 use crate::image::{decode, refuse_if, Grammar, Refusal};
 use crate::readings::{cut, is_reading, Readings};
@@ -91,6 +91,30 @@ pub fn number(image: &[u8], events: &[u16], script: &[u16], table: &mut [u32]) -
     }
 }
 
+/// Gives readings `k` to `k` + `m` - 1 as scripts, one after the other from the front of the room
+/// and fewer where the numbers end, and fills the count table.
+pub fn page(
+    image: &[u8],
+    events: &[u16],
+    k: u32,
+    m: u32,
+    table: &mut [u32],
+    room: &mut [u16],
+) -> Paged {
+    match paged(image, events, k, m, table, room) {
+        Ok(written) => Paged {
+            number: 0,
+            rule: 0,
+            written,
+        },
+        Err(Refusal { number, rule }) => Paged {
+            number,
+            rule,
+            written: 0,
+        },
+    }
+}
+
 /// Refusals 1 to 7, 15 and 8, with which every service over a record begins.
 fn accept(image: &[u8], events: &[u16]) -> Result<Grammar, Refusal> {
     let grammar = decode(image)?;
@@ -156,11 +180,40 @@ fn read(
     let words = script_words(events.len());
     refuse_if(script.len() < words, 11)?;
     let readings = filled(&grammar, events, table);
-    let past_numbering = k == u32::MAX && readings.total() >= u32::MAX.into();
-    refuse_if(u64::from(k) >= readings.total() && !past_numbering, 12)?;
-    refuse_if(past_numbering, 13)?;
+    accept_number(k, readings.total())?;
     script[..words].copy_from_slice(&readings.script(k.into()));
     Ok(())
+}
+
+/// Refusals 12 and 13, where there are so many readings.
+fn accept_number(k: u32, total: u64) -> Result<(), Refusal> {
+    let past_numbering = k == u32::MAX && total >= u32::MAX.into();
+    refuse_if(u64::from(k) >= total && !past_numbering, 12)?;
+    refuse_if(past_numbering, 13)
+}
+
+fn paged(
+    image: &[u8],
+    events: &[u16],
+    k: u32,
+    m: u32,
+    table: &mut [u32],
+    room: &mut [u16],
+) -> Result<u32, Refusal> {
+    let grammar = accept_table(image, events, table)?;
+    let words = script_words(events.len());
+    // Sums and products of what is asked for have 64 bits.
+    let (first, asked) = (u64::from(k), u64::from(m));
+    refuse_if((room.len() as u64) < asked * words as u64, 11)?;
+    let readings = filled(&grammar, events, table);
+    accept_number(k, readings.total())?;
+    // Numbers end at the count, and at 4,294,967,295, which none has.
+    let end = (first + asked).min(cut(readings.total()).into());
+    for (place, number) in (first..end).enumerate() {
+        let script = &mut room[place * words..(place + 1) * words];
+        script.copy_from_slice(&readings.script(number));
+    }
+    Ok((end - first) as u32)
 }
 
 fn numbered(

@@ -9,8 +9,8 @@ use second::examples::{chain, image, largest, stop, version_2};
 use second::image::decode;
 use second::random::Random;
 use second::readings::{is_reading, listed};
-use second::services::{check, count, judge, number, reading, test};
-use second::services::{Checked, Counted, Judged, Numbered, Read, Tested};
+use second::services::{check, count, judge, number, page, reading, test};
+use second::services::{Checked, Counted, Judged, Numbered, Paged, Read, Tested};
 use second::trees::script_words;
 
 /// With one rule, with few, and with as many as there may be.
@@ -179,6 +179,14 @@ fn quiet_in_every_service(image: &[u8], room: usize) {
     for (k, number) in [(0, 0), (1, 12), (2, 12), (u32::MAX - 1, 12), (u32::MAX, 12)] {
         let read = Read { number, rule: 0 };
         assert_eq!(reading(image, &[], k, &mut table, &mut script), read);
+        for m in [0, 1, 2, u32::MAX] {
+            let paged = Paged {
+                number,
+                rule: 0,
+                written: u32::from(number == 0 && m > 0),
+            };
+            assert_eq!(page(image, &[], k, m, &mut table, &mut script), paged);
+        }
     }
     let yes = Checked {
         yes: true,
@@ -250,6 +258,9 @@ fn everything(image: &[u8], events: &[u16]) -> String {
         let (mut table, mut script) = (vec![8; room], vec![7; script_words(n) + 1]);
         let read = reading(image, events, k, &mut table, &mut script);
         told += &format!(" {read:?} {table:?} {script:?}");
+        let (mut table, mut scripts) = (vec![8; room], vec![7; 2 * script_words(n) + 1]);
+        let paged = page(image, events, k, 2, &mut table, &mut scripts);
+        told += &format!(" {paged:?} {table:?} {scripts:?}");
         for words in [&script[..script_words(n)], &script] {
             let mut table = vec![8; room];
             let checked = check(image, events, words);

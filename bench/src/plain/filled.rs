@@ -1,6 +1,6 @@
-//! What `reading` and `number` share: the numbers of a table that is filled.
+//! What `reading`, `page` and `number` share: the numbers of a table that is filled.
 
-use super::{cell, Grammar};
+use super::{cell, count, Grammar};
 
 /// A record and its table.
 pub struct Filled<'a> {
@@ -10,6 +10,11 @@ pub struct Filled<'a> {
 }
 
 impl Filled<'_> {
+    /// The readings of the record.
+    pub fn total(&self) -> u32 {
+        count::total(&self.grammar, self.events, self.table)
+    }
+
     /// The derivations of a symbol over a stretch.
     pub fn ways(&self, symbol: u8, i: usize, k: usize) -> u64 {
         self.table[cell(i, k) * self.grammar.symbols + symbol as usize] as u64

@@ -9,6 +9,7 @@ mod filled;
 mod judge;
 mod judge_skipping;
 mod number;
+mod page;
 mod reading;
 
 pub use check::check;
@@ -17,6 +18,7 @@ pub use count_skipping::count_skipping;
 pub use judge::judge;
 pub use judge_skipping::judge_skipping;
 pub use number::number;
+pub use page::{page_afresh, page_stepping};
 pub use reading::reading;
 
 use crate::answers::Refusal;

@@ -5,20 +5,22 @@ pub mod check;
 pub mod count;
 pub mod judge;
 pub mod number;
+pub mod page;
 pub mod reading;
 
 use crate::case::{verify, Case, Lent, Side};
 use crate::records::Input;
-use crate::timing;
+use crate::timing::{self, Times};
 use std::fmt::Debug;
 
 /// A name, and what compares the sides of the service and then times them in a number of rounds.
 pub type Service = (&'static str, fn(usize));
 
-pub const ALL: [Service; 5] = [
+pub const ALL: [Service; 6] = [
     ("judge", judge::run),
     ("count", count::run),
     ("reading", reading::run),
+    ("page", page::run),
     ("number", number::run),
     ("check", check::run),
 ];
@@ -43,10 +45,27 @@ fn compare_and_time<A, F>(
     A: Debug + PartialEq,
     F: Fn(&Input, &mut Lent) -> A,
 {
+    compare(sides, &timed, &others);
+    let times = time(sides, &timed, rounds);
+    let names: Vec<_> = sides.iter().map(|side| side.0).collect();
+    timing::print_growth(&names, &times, steps);
+}
+
+fn compare<A, F>(sides: &[Side<F>], timed: &[Case<A>], others: &[Case<A>])
+where
+    A: Debug + PartialEq,
+    F: Fn(&Input, &mut Lent) -> A,
+{
     timed.iter().for_each(|case| verify(sides, case));
     others.iter().for_each(|case| verify(sides, case));
     let (timed_count, other_count) = (timed.len(), others.len());
     println!("{timed_count} timed cases and {other_count} others equal in every answer and word");
+}
+
+fn time<'a, A, F>(sides: &[Side<F>], timed: &'a [Case<A>], rounds: usize) -> Vec<Times<'a>>
+where
+    F: Fn(&Input, &mut Lent) -> A,
+{
     let names: Vec<_> = sides.iter().map(|side| side.0).collect();
     timing::print_head();
     let measure = |case| {
@@ -54,6 +73,5 @@ fn compare_and_time<A, F>(
         timing::print_times(&names, &times);
         times
     };
-    let times: Vec<_> = timed.iter().map(measure).collect();
-    timing::print_growth(&names, &times, steps);
+    timed.iter().map(measure).collect()
 }

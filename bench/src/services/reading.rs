@@ -45,16 +45,9 @@ fn others() -> Vec<Case<Refusal>> {
     cases.extend([
         numbered(sevens(20), 1_767_263_189, CHAIN),
         numbered(sevens(21), u32::MAX - 1, CHAIN),
-        past(records::quiet(1), 1, 12),
-        past(records::quiet(1), u32::MAX, 12),
-        past(records::quiet(0), 0, 12),
-        past(sevens(0), 0, 12),
-        past(sevens(3), 2, 12),
-        past(sevens(20), 1_767_263_190, 12),
-        past(sevens(20), u32::MAX, 12),
-        past(sevens(21), u32::MAX, 13),
     ]);
-    cases.extend(short_of_room());
+    cases.extend(past(1));
+    cases.extend(short_of_room(1));
     cases
 }
 
@@ -82,20 +75,37 @@ fn answered(input: Input) -> Case<Refusal> {
     Case::new(input, written, 0.into())
 }
 
-/// A number that no reading has: the table is filled all the same.
-fn past(input: Input, k: u32, number: u8) -> Case<Refusal> {
-    let written = Words {
-        table: input.needs().table,
-        ..Words::default()
-    };
-    Case::new(Input { k, ..input }, written, number.into())
+/// Numbers that no reading has, and so many scripts asked for: the table is filled all the same.
+pub fn past<A: From<Refusal>>(m: u32) -> [Case<A>; 8] {
+    let sevens = records::sevens;
+    let numbers = [
+        (records::quiet(1), 1, 12),
+        (records::quiet(1), u32::MAX, 12),
+        (records::quiet(0), 0, 12),
+        (sevens(0), 0, 12),
+        (sevens(3), 2, 12),
+        (sevens(20), 1_767_263_190, 12),
+        (sevens(20), u32::MAX, 12),
+        (sevens(21), u32::MAX, 13),
+    ];
+    numbers.map(|(input, k, number)| {
+        let written = Words {
+            table: input.needs().table,
+            ..Words::default()
+        };
+        let told = Refusal::from(number).into();
+        Case::new(Input { k, m, ..input }, written, told)
+    })
 }
 
-/// Too little room is found before a number that no reading has, the table's before the script's.
-fn short_of_room() -> [Case<Refusal>; 2] {
+/// Too little room is found before a number that no reading has, the table's before the scripts'.
+pub fn short_of_room<A: From<Refusal>>(m: u32) -> [Case<A>; 2] {
     let short = |table_less, number| {
-        let mut input = records::stops();
-        input.k = 1;
+        let input = Input {
+            k: 1,
+            m,
+            ..records::stops()
+        };
         let mut room = input.needs();
         room.table -= table_less;
         room.script -= 1;

@@ -1,7 +1,7 @@
 //! A refusal as every service gives it.
 
-use second::services::{check, count, judge, number, reading, test};
-use second::services::{Checked, Counted, Judged, Numbered, Read, Tested};
+use second::services::{check, count, judge, number, page, reading, test};
+use second::services::{Checked, Counted, Judged, Numbered, Paged, Read, Tested};
 
 /// Whether or not record and rooms are at fault too.
 pub fn image_is_refused(told: (u8, u16), image: &[u8]) {
@@ -43,9 +43,18 @@ pub fn every_service_refuses(told: (u8, u16), image: &[u8], events: &[u16], room
         number: refusal,
         rule,
     };
+    let paged = Paged {
+        number: refusal,
+        rule,
+        written: 0,
+    };
     assert_eq!(judge(image, events, &mut chart), judged);
     assert_eq!(count(image, events, &mut table), counted);
     assert_eq!(reading(image, events, 0, &mut table, &mut script), read);
+    for m in [0, 1, u32::MAX] {
+        let refused = page(image, events, 0, m, &mut table, &mut script);
+        assert_eq!(refused, paged);
+    }
     for script in [&[][..], &[4, 1], &[0; 1_000]] {
         assert_eq!(check(image, events, script), checked);
         assert_eq!(number(image, events, script, &mut table), numbered);

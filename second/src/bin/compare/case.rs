@@ -2,6 +2,7 @@
 
 use crate::draw::LONGEST;
 use crate::lent::{Lent, Word};
+use crate::pages::{Page, MOST_WORDS};
 use crate::scripts::Script;
 use crate::setting::{Call, Setting};
 use crate::tally::Tally;
@@ -91,6 +92,28 @@ impl<'a> Case<'a> {
         self.offered(script, call)
     }
 
+    pub fn page(&mut self, page: &Page) -> Step {
+        let table = self.room("table", self.table);
+        let room = self.page_room(page);
+        self.paged(page, table, room)
+    }
+
+    /// The page in rooms that are just enough.
+    pub fn exact_page(&mut self, page: &Page) -> Step {
+        let table = Lent::room(self.random, self.table);
+        let room = Lent::room(self.random, page.m as usize * script_words(self.n));
+        self.paged(page, table, room)
+    }
+
+    fn paged(&mut self, page: &Page, table: Lent<u32>, room: Lent<u16>) -> Step {
+        let short = page.room_for_those(script_words(self.n), room.slice().len());
+        let (k, m) = (page.k, page.m);
+        Step {
+            note: page.what() + short,
+            ..self.step(Call::Page { k, m, table, room })
+        }
+    }
+
     /// The reading of this number, and the number of its script, in rooms that are just enough.
     pub fn both_ways(&mut self, k: u32, words: &[u16]) -> [Step; 2] {
         let [table, other_table] = [0; 2].map(|_| Lent::room(self.random, self.table));
@@ -129,6 +152,17 @@ impl<'a> Case<'a> {
         step
     }
 
+    /// For all scripts if they aren't too many; sometimes of a length that is mistaken for that.
+    fn page_room(&mut self, page: &Page) -> Lent<u16> {
+        let words = script_words(self.n);
+        let need = page.m as usize * words;
+        if need > MOST_WORDS || self.random.once_in(6) {
+            let len = self.random.one_of(&page.lengths(words));
+            return self.room_of("page room", need, len);
+        }
+        self.room("page room", need)
+    }
+
     /// Mostly just enough or a little more, sometimes one word short or much too short.
     fn room<T: Word>(&mut self, what: &str, need: usize) -> Lent<T> {
         let len = match self.random.below(16) {
@@ -138,6 +172,11 @@ impl<'a> Case<'a> {
             3..=7 => need + self.random.within(1, 5),
             _ => need,
         };
+        self.room_of(what, need, len)
+    }
+
+    /// So long a room, where so many words are needed.
+    fn room_of<T: Word>(&mut self, what: &str, need: usize, len: usize) -> Lent<T> {
         let fit = match len {
             _ if len == need => "exact",
             _ if len > need => "longer",

@@ -7,26 +7,28 @@ use crate::filled;
 use crate::layered::LENGTHS;
 use crate::layouts::OF_LAYOUTS;
 use crate::numbers::LATE;
+use crate::pages;
 use crate::quiet;
 use crate::remarks::{names, OF_RULES};
 use crate::symbols::OF_SYMBOLS;
 use second::drawn::SORTS;
 
 /// The numbers of each service.
-const NUMBERS: [(&str, &[u8]); 6] = [
+const NUMBERS: [(&str, &[u8]); 7] = [
     ("test", &[0, 1, 2, 3, 4, 5, 6, 7, 15]),
     ("judge", &[0, 1, 2, 3, 4, 5, 6, 7, 15, 8, 9]),
     ("count", &[0, 1, 2, 3, 4, 5, 6, 7, 15, 8, 10]),
     ("reading", &[0, 1, 2, 3, 4, 5, 6, 7, 15, 8, 10, 11, 12, 13]),
     ("check", &[0, 1, 2, 3, 4, 5, 6, 7, 15, 8]),
     ("number", &[0, 1, 2, 3, 4, 5, 6, 7, 15, 8, 10, 12, 13]),
+    ("page", &[0, 1, 2, 3, 4, 5, 6, 7, 15, 8, 10, 11, 12, 13]),
 ];
 
-const ROOMS: [&str; 3] = ["chart", "table", "script room"];
+const ROOMS: [&str; 4] = ["chart", "table", "script room", "page room"];
 
 const FITS: [&str; 5] = ["empty", "one word short", "shorter", "exact", "longer"];
 
-const OTHERS: [&str; 45] = [
+const OTHERS: [&str; 52] = [
     "judge: not admitted",
     "judge: admitted",
     "judge: the most firings",
@@ -61,11 +63,18 @@ const OTHERS: [&str; 45] = [
     "number: number 12, table past the need",
     "number: number 13, table past the need",
     "number: number 15, a reading",
-    "number: undone",
-    "reading: undone",
+    "number: told again",
+    "reading: told again",
     "reading: number 15, k of a reading",
     "reading: number 15, k past the count",
     "reading: number 15, k past all numbers",
+    "page: told again",
+    "page: number 0, table past the need",
+    "page: number 12, table past the need",
+    "page: number 13, table past the need",
+    "page: number 15, several scripts",
+    "page: number 15, k past the count",
+    "page: number 15, k past all numbers",
     "true total: 4294967294",
     "true total: 4294967295",
     "true total: 4294967296",
@@ -106,6 +115,7 @@ pub fn expected() -> Vec<String> {
             all.push(format!("number: number 12: {name}{late}"));
         }
     }
+    all.extend(pages::expected());
     all.extend(quiet::expected());
     all.extend(filled::expected());
     all.extend(OTHERS.map(str::to_string));

@@ -53,7 +53,7 @@ pub fn expected() -> Vec<String> {
     let judged = all.iter().map(|what| format!("judge: {what}"));
     let mut lines: Vec<_> = judged.collect();
     all.extend(OF_TABLES.map(|(what, _)| what.to_string()));
-    for service in ["count", "reading", "number"] {
+    for service in ["count", "reading", "number", "page"] {
         lines.extend(all.iter().map(|what| format!("{service}: {what}")));
     }
     lines

@@ -1,9 +1,10 @@
 //! compare [--seed S] [--case I] [N]: the proved reader beside this one in N random cases, or in
-//! case I alone. A case is one image and one record through all six services. Both sides must agree
-//! in every answer and in every word, lent or not, and the proved reader with itself if a version 1
-//! image is replaced by its twin of version 2, and if a number or a script is turned into the other
-//! and back. Stops at the first difference.
+//! case I alone. A case is one image and one record through all seven services. Both sides must
+//! agree in every answer and in every word, lent or not, and the proved reader with itself if a
+//! version 1 image is replaced by its twin of version 2, if a number or a script is turned into the
+//! other and back, and if a script of a page is asked for alone. Stops at the first difference.
 
+mod again;
 mod case;
 mod changes;
 mod damage;
@@ -16,6 +17,7 @@ mod layouts;
 mod lent;
 mod notes;
 mod numbers;
+mod pages;
 mod plan;
 mod proved;
 mod quiet;
@@ -26,9 +28,9 @@ mod setting;
 mod sides;
 mod symbols;
 mod tally;
-mod undo;
 mod versions;
 
+use again::again;
 use case::Case;
 use damage::FAULTS;
 use proved::PROVED;
@@ -37,7 +39,6 @@ use setting::Setting;
 use sides::{Answer, Side, SECOND};
 use std::process::ExitCode;
 use tally::Tally;
-use undo::undoing;
 use versions::{in_any_version, twin};
 
 /// In so many cases everything that is expected must occur.
@@ -138,9 +139,9 @@ fn compare(seed: u64, case: u64, tally: &mut Tally) -> Result<(), String> {
             tally.add(format!("{}: twin with flag {flag}", twin.service()));
             compare_twin(&twin, &second)?;
         }
-        if let Some((undoing, undone)) = undoing(&mut random, &second) {
-            tally.add(format!("{}: undone", step.setting.service()));
-            compare_undone(&undoing, &undone)?;
+        if let Some((again, told)) = again(&mut random, &second) {
+            tally.add(format!("{}: told again", step.setting.service()));
+            compare_again(&again, &told)?;
         }
         notes::note(tally, &step, &second);
     }
@@ -178,10 +179,10 @@ fn compare_twin(twin: &Setting, second: &Called) -> Result<(), String> {
     agree(twin, [("version 2", &proved), ("version 1", &version_1)])
 }
 
-/// The proved side must come back to where another call of it began.
-fn compare_undone(undoing: &Setting, undone: &Called) -> Result<(), String> {
-    let proved = called(&PROVED, undoing);
-    agree(undoing, [("proved", &proved), ("undone", undone)])
+/// The proved side must end as another call of it told.
+fn compare_again(again: &Setting, told: &Called) -> Result<(), String> {
+    let proved = called(&PROVED, again);
+    agree(again, [("proved", &proved), ("told", told)])
 }
 
 /// An error if two calls that were lent the same don't end alike, and in what.

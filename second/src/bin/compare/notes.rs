@@ -3,6 +3,7 @@
 use crate::case::Step;
 use crate::filled;
 use crate::layered::LENGTHS;
+use crate::pages;
 use crate::quiet;
 use crate::remarks::remarks;
 use crate::setting::Call;
@@ -31,6 +32,9 @@ pub fn note(tally: &mut Tally, step: &Step, second: &Called) {
         tally.add(line);
     }
     note_answer(tally, step, answer);
+    for line in pages::lines(step, answer) {
+        tally.add(line);
+    }
     // Refusals 12 and 13 leave a table too.
     if [0, 12, 13].contains(&number) {
         note_past_need(tally, step, number);

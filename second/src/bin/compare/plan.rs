@@ -1,17 +1,22 @@
-//! Which calls are made with an image and a record: numbers of readings, scripts.
+//! Which calls are made with an image and a record: numbers of readings, scripts, pages.
 
 use crate::case::{Case, Step};
 use crate::numbers;
+use crate::pages::Page;
 use crate::scripts::{a_reading, any_script, random_words, Script};
 use second::image::{header_bytes, well_formed, Grammar};
 use second::random::Random;
 use second::readings::{cut, Readings};
 use second::services::MOST_EVENTS;
+use second::trees::script_words;
 
 /// All numbers of a record that has so many readings are tried, now and then.
 const FEW: u64 = 20;
 
-/// Every service at least once, but for the numbering of scripts where that takes longest.
+/// All pages of a record that has so many readings are tried, now and then.
+const FEW_PAGED: u64 = 5;
+
+/// Every service at least once, but for numbers of scripts and pages where they take longest.
 pub fn steps(case: &mut Case) -> Vec<Step> {
     let mut steps = vec![case.test(case.image), case.judge(), case.count()];
     match well_formed(case.image) {
@@ -22,6 +27,8 @@ pub fn steps(case: &mut Case) -> Vec<Step> {
             steps.push(case.reading(k, ""));
             steps.push(case.check(&script));
             steps.push(case.number(&script));
+            let m = case.random.one_of(&[0, 1, 2, u32::MAX]);
+            steps.push(case.page(&Page { k, m, total: 0 }));
         }
     }
     let has_flag = header_bytes(case.image) == 11 && case.image.len() >= 11;
@@ -43,8 +50,8 @@ fn every_flag(case: &mut Case) -> Vec<Step> {
     steps
 }
 
-/// Readings, checks and numbers of an image and a record that are not refused, or only for dead
-/// symbols.
+/// Readings, checks, numbers and pages of an image and a record that are not refused, or only for
+/// dead symbols.
 fn answered(case: &mut Case, grammar: &Grammar) -> Vec<Step> {
     let readings = Readings::of(grammar, case.events);
     let total = readings.total();
@@ -80,6 +87,41 @@ fn answered(case: &mut Case, grammar: &Grammar) -> Vec<Step> {
     if (2..=FEW).contains(&total) && case.random.once_in(8) {
         let both_ways = |number| case.both_ways(number as u32, &readings.script(number));
         steps.extend((0..total).flat_map(both_ways));
+    }
+    steps.extend(pages(case, grammar, total));
+    steps
+}
+
+/// One page mostly; more where they don't take long, and then also long pages and every page of few
+/// readings now and then.
+fn pages(case: &mut Case, grammar: &Grammar, total: u64) -> Vec<Step> {
+    let words = script_words(case.n);
+    // What a table takes, and what a script takes.
+    let table = grammar.pair_rules.len() * case.n.pow(3);
+    let script = grammar.pair_rules.len() * case.n;
+    let pages = match table {
+        0..=5_000 => 2,
+        5_001..=5_000_000 => 1,
+        _ => case.random.below(2),
+    };
+    let most = match script {
+        0..=200 => 24,
+        201..=2_000 => 8,
+        _ => 3,
+    };
+    let mut steps = Vec::new();
+    for _ in 0..pages {
+        let page = Page::any(case.random, total, words, most);
+        steps.push(case.page(&page));
+    }
+    if case.n > 0 && script <= 200 && case.random.once_in(80) {
+        let page = Page::long(case.random, total, words);
+        steps.push(case.exact_page(&page));
+    }
+    let few = (1..=FEW_PAGED).contains(&total);
+    if few && table <= 50_000 && case.random.once_in(40) {
+        case.tally.add("every page of few");
+        steps.extend(Page::every(total).map(|page| case.exact_page(&page)));
     }
     steps
 }

@@ -9,6 +9,7 @@ pub const PROVED: Side = Side {
     reading: proved_reading,
     check: proved_check,
     number: proved_number,
+    page: proved_page,
 };
 
 // A yes or no is taken as a byte, so that one that is neither 0 nor 1 is seen.
@@ -78,6 +79,20 @@ extern "C" {
         rule: *mut u16,
         reading: *mut u32,
     ) -> u8;
+    fn reader_page(
+        image: *const u8,
+        image_len: usize,
+        events: *const u16,
+        events_len: usize,
+        k: u32,
+        m: u32,
+        table: *mut u32,
+        table_len: usize,
+        room: *mut u16,
+        room_len: usize,
+        rule: *mut u16,
+        written: *mut u32,
+    ) -> u8;
 }
 
 // SAFETY, of every call below: each pointer goes with the length of the slice that it came from or
@@ -85,7 +100,8 @@ extern "C" {
 //
 // The locals hold what no answer is, so that one left unwritten is seen.
 
-/// Any total or number of a reading may be right here or there; this one hardly ever is.
+/// Any total, number of a reading or number of scripts may be right here or there; this one hardly
+/// ever is.
 const UNLIKELY: u32 = 0x5A5A_5A5A;
 
 fn proved_test(image: &[u8]) -> Answer {
@@ -200,4 +216,32 @@ fn proved_number(image: &[u8], events: &[u16], script: &[u16], table: &mut [u32]
         )
     };
     answer(number, rule, [reading.into(), 0, 0])
+}
+
+fn proved_page(
+    image: &[u8],
+    events: &[u16],
+    k: u32,
+    m: u32,
+    table: &mut [u32],
+    room: &mut [u16],
+) -> Answer {
+    let (mut rule, mut written) = (u16::MAX, UNLIKELY);
+    let number = unsafe {
+        reader_page(
+            image.as_ptr(),
+            image.len(),
+            events.as_ptr(),
+            events.len(),
+            k,
+            m,
+            table.as_mut_ptr(),
+            table.len(),
+            room.as_mut_ptr(),
+            room.len(),
+            &mut rule,
+            &mut written,
+        )
+    };
+    answer(number, rule, [written.into(), 0, 0])
 }

@@ -5,7 +5,8 @@ use crate::sides::Answer;
 use second::image::{header_bytes, well_formed};
 
 /// The tally's line for a call with an empty record and an image that is accepted, or refused for
-/// dead symbols; nothing if it is the test, or a reading whose number is nothing special.
+/// dead symbols; nothing if it is the test, or a reading or a page of numbers that are nothing
+/// special.
 pub fn line(setting: &Setting, answer: &Answer) -> Option<String> {
     let image = setting.image.slice();
     let grammar = well_formed(image).ok()?;
@@ -36,9 +37,21 @@ pub fn line(setting: &Setting, answer: &Answer) -> Option<String> {
             };
             format!("{words}, number {}", answer.number)
         }
+        Call::Page { k, m, .. } if [0, 1, u32::MAX].contains(m) => {
+            let (k, number, written) = (first(*k), answer.number, answer.rest[0]);
+            format!("{k}, m = {m}, number {number}, {written} written")
+        }
         _ => return None,
     };
     Some(told(image, setting.service(), &said))
+}
+
+/// What is told of the first reading of a page.
+fn first(k: u32) -> &'static str {
+    match k {
+        0 => "k = 0",
+        _ => "k past 0",
+    }
 }
 
 fn told(image: &str, service: &str, said: &str) -> String {
@@ -65,7 +78,13 @@ pub fn expected() -> Vec<String> {
             ),
             told(image, "number", "other words, number 12"),
         ]);
-        let services = ["judge", "count", "reading", "check", "number"];
+        for m in [0, 1, u32::MAX] {
+            let written = readings.min(m as usize);
+            let of_0 = format!("k = 0, m = {m}, number {reading_0}, {written} written");
+            let past_0 = format!("k past 0, m = {m}, number 12, 0 written");
+            all.extend([of_0, past_0].map(|said| told(image, "page", &said)));
+        }
+        let services = ["judge", "count", "reading", "check", "number", "page"];
         all.extend(services.map(|service| told(image, service, "number 15")));
     }
     all

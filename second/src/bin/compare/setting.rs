@@ -25,6 +25,12 @@ pub enum Call {
         script: Lent<u16>,
         table: Lent<u32>,
     },
+    Page {
+        k: u32,
+        m: u32,
+        table: Lent<u32>,
+        room: Lent<u16>,
+    },
 }
 
 impl Call {
@@ -37,18 +43,21 @@ impl Call {
 
     pub fn table(&self) -> Option<&Lent<u32>> {
         match self {
-            Call::Count { table } | Call::Reading { table, .. } | Call::Number { table, .. } => {
-                Some(table)
-            }
+            Call::Count { table }
+            | Call::Reading { table, .. }
+            | Call::Number { table, .. }
+            | Call::Page { table, .. } => Some(table),
             _ => None,
         }
     }
 
+    /// The words of one script or of several.
     fn script(&self) -> Option<&Lent<u16>> {
         match self {
             Call::Reading { script, .. } | Call::Check { script } | Call::Number { script, .. } => {
                 Some(script)
             }
+            Call::Page { room, .. } => Some(room),
             _ => None,
         }
     }
@@ -76,6 +85,10 @@ impl Setting {
             Call::Number { script, table } => {
                 (side.number)(image, events, script.slice(), table.slice_mut())
             }
+            Call::Page { k, m, table, room } => {
+                let (table, room) = (table.slice_mut(), room.slice_mut());
+                (side.page)(image, events, *k, *m, table, room)
+            }
         }
     }
 
@@ -87,6 +100,7 @@ impl Setting {
             Call::Reading { .. } => "reading",
             Call::Check { .. } => "check",
             Call::Number { .. } => "number",
+            Call::Page { .. } => "page",
         }
     }
 
@@ -104,6 +118,10 @@ impl Setting {
             Call::Number { script, table } => {
                 let (script, table) = (script.slice(), table.slice().len());
                 format!("script {script:?}, table of {table} words")
+            }
+            Call::Page { k, m, table, room } => {
+                let (table, room) = (table.slice().len(), room.slice().len());
+                format!("k = {k}, m = {m}, table of {table} words, room of {room} words")
             }
         };
         let (image, events) = (self.image.slice(), self.events.slice());

@@ -1,4 +1,4 @@
-//! What both sides offer: the same six functions.
+//! What both sides offer: the same seven functions.
 
 use second::services;
 
@@ -17,6 +17,7 @@ type Count = fn(&[u8], &[u16], &mut [u32]) -> Answer;
 type Reading = fn(&[u8], &[u16], u32, &mut [u32], &mut [u16]) -> Answer;
 type Check = fn(&[u8], &[u16], &[u16]) -> Answer;
 type Number = fn(&[u8], &[u16], &[u16], &mut [u32]) -> Answer;
+type Page = fn(&[u8], &[u16], u32, u32, &mut [u32], &mut [u16]) -> Answer;
 
 pub struct Side {
     pub test: Test,
@@ -25,6 +26,7 @@ pub struct Side {
     pub reading: Reading,
     pub check: Check,
     pub number: Number,
+    pub page: Page,
 }
 
 pub const SECOND: Side = Side {
@@ -55,6 +57,10 @@ pub const SECOND: Side = Side {
         let numbered = services::number(image, events, script, table);
         let rest = [numbered.reading.into(), 0, 0];
         answer(numbered.number, numbered.rule, rest)
+    },
+    page: |image, events, k, m, table, room| {
+        let paged = services::page(image, events, k, m, table, room);
+        answer(paged.number, paged.rule, [paged.written.into(), 0, 0])
     },
 };
 

@@ -114,6 +114,9 @@ pub fn later_refusal(setting: &Setting) -> Option<u8> {
     match &setting.call {
         Call::Judge { chart } if chart.slice().len() < cells(n) => Some(9),
         Call::Reading { script, .. } if script.slice().len() < script_words(n) => Some(11),
+        Call::Page { m, room, .. } if room.slice().len() < *m as usize * script_words(n) => {
+            Some(11)
+        }
         _ => None,
     }
 }
