@@ -53,3 +53,13 @@ pub fn write_script(words: &[u16]) {
         value(words[x] as u64);
     }
 }
+
+// The words of a room, which may hold many scripts.
+pub fn write_room(words: &[u16]) {
+    if 64 < words.len() {
+        let sum = mix_script(words, 0);
+        value(sum);
+        return;
+    }
+    write_script(words);
+}

@@ -1,11 +1,12 @@
 // Runs the services on each line of standard input, and writes the line's name with the answers.
 // A line is a name, a colon, and a space and two digits for each byte of an image. Where nothing follows, the image is tested: written
 // are the number and the rule with N, L and B, and both for records of 96 and of 97 events. Where a semicolon follows, a record is judged, and
-// where a bar follows, its readings are asked for: behind the bar are its events, two bytes each, and a line that ends there asks for
-// every number.
+// where a bar follows, its readings are asked for: behind the bar are its events, two bytes each. A line that ends there asks for
+// every number; where a semicolon follows, for one number, and where a second bar follows, for a page.
 mod judging; // a line that judges a record
 mod ask; // a line that asks for one number
 mod every; // a line that asks for every number
+mod paging; // a line that asks for a page
 mod digest; // answers and words as they are written
 
 use digest::write_refusal;
@@ -23,6 +24,9 @@ pub const WORDS: usize = image::MOST_EVENTS * (image::MOST_EVENTS + 1) / 2 + 224
 
 pub const ROOM: usize = 4 * image::MOST_EVENTS + 44;
 
+// The most bytes of standard input.
+const TEXT: usize = 131072;
+
 fn test(image: &[u8]) {
     let t = image::test_image(image);
     write_refusal(t.number, t.rule);
@@ -37,6 +41,11 @@ fn test(image: &[u8]) {
 
 // What follows the bar.
 fn run_readings(image: &[u8], text: &[u8]) {
+    let bar = find(text, 0, b'|');
+    if bar < text.len() {
+        paging::run(image, text, bar);
+        return;
+    }
     let mut events = [0u16; 128];
     let end = find(text, 0, b';');
     let n = read_words(&text[..end], &mut events);
@@ -95,7 +104,7 @@ fn run(text: &[u8], image: &mut [u8]) {
 }
 
 fn main() {
-    let mut text = io::large_buffer();
+    let mut text = [0u8; TEXT];
     let mut image = io::buffer();
     let count = io::read_full(STDIN_FILENO, &mut text);
     run(&text[..count], &mut image);
