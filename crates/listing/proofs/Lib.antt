@@ -1,3 +1,4 @@
 pub mod Refuses
 pub mod Lists
+pub mod FirstPage
 pub mod Long

@@ -1,27 +1,21 @@
--- What is written: the numbers of a refusal, the heading, the lines of the first scripts one more at a time; and one outcome only.
+-- What is written: the numbers of a refusal, the heading, the lines of the scripts in a room one more at a time; and one outcome only.
 -- Assumes nothing.
-use mathlib.Core.Path.{_≡_, sym, ap, ap₂, _∙_}
+use mathlib.Core.Path.{_≡_, refl, sym, ap, ap₂, _∙_}
 use mathlib.Core.List.{List, [], _∷_, _++_, append-assoc, append-nil}
-use Prim.Native.Nat.{ℕ, _+_, _*_, _≤_, _<_}
+use Prim.Native.Nat.{ℕ, zero, suc, _+_, _-_, _*_, _≤_, _<_}
+use native.Mathlib.Nat.{zero-mul, suc-mul, mul-le-mul-right}
 use native.Mathlib.Numerals.{add-one}
 use native.Mathlib.Decide.{ℕ-discrete}
 use native.Mathlib.Omega.{arith}
 use borrow.Author.Tests.{eq-eqb, ne-eqb}
-use lib.ListN.{length, getD, take, length-map}
-use lib.Seq.{take-suc, take-all, take-at}
-use Rattle.derivation.specs.Grammar.{Grammar}
-use Rattle.derivation.specs.Tree.{scriptWords}
-use Rattle.derivation.specs.Reading.{quiet, spelling}
-use Rattle.derivation.specs.Derivations.{readings, scripts}
-use Rattle.derivation.proofs.Numbering.{readings-numbered}
-use Rattle.derivation.proofs.Lists.{map-at}
-use Rattle.derivation.proofs.Readings.{spelling-length}
+use lib.ListN.{length, getD, take, drop}
+use lib.Seq.{take-suc}
+use Rattle.derivation.specs.Derivations.{join}
 use Rattle.image.proofs.Refusals.{first-only}
 use Rattle.image.proofs.Named.{names-same}
-use Rattle.table.specs.Table.{limit, held}
-use Rattle.readings.specs.Count.{howMany}
+use Rattle.table.specs.Table.{limit}
 use Rattle.text.specs.Text.{line}
-use Rattle.listing.specs.Listing.{mostListed, lineBytes, refusedWords, refusedLine, orMore, lines, ListingIs}
+use Rattle.listing.specs.Listing.{lineBytes, refusedWords, refusedLine, orMore, lines, ListingIs}
 
 -- ---- one piece behind the other
 pub heading-text : (h n m t u v x : List ℕ) → t ≡ h → u ≡ t ++ n → v ≡ u ++ m → x ≡ v ++ (10 ∷ []) → x ≡ h ++ (n ++ (m ++ (10 ∷ [])))
@@ -50,54 +44,57 @@ unfolding lines
 lines-more [] s = append-nil (line s)
 lines-more (x ∷ ss) s = ap (λ (l : List ℕ). line x ++ l) (lines-more ss s) ∙ sym (append-assoc (line x) (lines ss) (line s))
 
-lines-next : (ss : List (List ℕ)) (k : ℕ) → k < length ss → lines (take (k + 1) ss) ≡ lines (take k ss) ++ line (getD ss k [])
-lines-next ss k h =
-    ap (λ (n : ℕ). lines (take n ss)) (add-one k) ∙ ap lines (take-suc ss k [] h) ∙ lines-more (take k ss) (getD ss k [])
+-- the lines of the first c scripts, where f gives each of them
+pub lines-each : (f : ℕ → List ℕ) (ss : List (List ℕ)) (c : ℕ) → c ≤ length ss → ((x : ℕ) → x < c → f x ≡ getD ss x []) → join c (λ x. line (f x)) ≡ lines (take c ss)
+unfolding join lines
+lines-each f ss zero h e = refl
+lines-each f ss (suc c) h e =
+    ap₂ _++_ (lines-each f ss c (omega arith) (λ x l. e x (omega arith))) (ap line (e c (omega arith)))
+    ∙ sym (ap lines (take-suc ss c [] h) ∙ lines-more (take c ss) (getD ss c []))
 
--- ---- scripts
-module _ (g : Grammar) (w : List ℕ) where
-  length-scripts : length (scripts g w) ≡ howMany g w
-  unfolding scripts
-  length-scripts = length-map (readings g w) spelling
+-- ---- a room with scripts of n words, one after the other
+module _ (room : List ℕ) (n : ℕ) where
+  abbrev linesOf : ℕ → List ℕ
+  linesOf c = join c (λ x. line (take n (drop (x * n) room)))
 
-  module _ (k : ℕ) (h : k < howMany g w) where
-    script-at : getD (scripts g w) k [] ≡ spelling (getD (readings g w) k quiet)
-    unfolding scripts
-    script-at = map-at spelling (readings g w) k quiet [] h
+  lines-next : (x : ℕ) → linesOf (x + 1) ≡ linesOf x ++ line (take n (drop (x * n) room))
+  unfolding join
+  lines-next x = rw add-one
 
-    -- the words of the script, in the room that it was written to the front of
-    pub line-of : (room r : List ℕ) (n : ℕ) → n ≡ scriptWords (length w)
-        → room ≡ spelling (getD (readings g w) k quiet) ++ r → line (take n room) ≡ line (getD (scripts g w) k [])
-    line-of room r n e f =
-        let z = spelling-length g w _ (readings-numbered g w .gives k h) ∙ sym e in
-        ap line (ap (take n) f ∙ take-at _ r n z ∙ sym script-at)
+  next-place : (x : ℕ) → (x + 1) * n ≡ x * n + n
+  next-place x = ap (λ (m : ℕ). m * n) (add-one x) ∙ suc-mul x n
 
-  -- ---- after k lines
-  pub record Listed (before : List ℕ) (at k end : ℕ) (now : List ℕ) : Type 0 where
-    pub small : end ≤ at + k * lineBytes
-    pub text : take end now ≡ take at before ++ lines (take k (scripts g w))
+  -- after x lines: the next script stands from `from` on, and the last line ends at `end`
+  pub record Listed (before : List ℕ) (at x from end : ℕ) (now : List ℕ) : Type 0 where
+    pub place : from ≡ x * n
+    pub small : end ≤ at + x * lineBytes
+    pub text : take end now ≡ take at before ++ linesOf x
 
-  pub listed-start : (before : List ℕ) (at : ℕ) → Listed before at 0 at before
-  unfolding lines
-  listed-start before at = record { small = omega arith; text = sym (append-nil (take at before)) }
+  pub listed-start : (before : List ℕ) (at : ℕ) → Listed before at 0 0 at before
+  unfolding join
+  listed-start before at = record { place = sym (zero-mul n); small = omega arith; text = sym (append-nil (take at before)) }
 
-  pub listed-step : (before now after : List ℕ) (at k end r : ℕ) → k < howMany g w → Listed before at k end now → r ≤ end + lineBytes
-      → take r after ≡ take end now ++ line (getD (scripts g w) k []) → Listed before at (k + 1) r after
-  listed-step before now after at k end r h v l e = record {
-    small = let s = v .small in omega arith;
-    text = e ∙ rw (v .text, append-assoc) (ap (λ (x : List ℕ). take at before ++ x) (sym (lines-next (scripts g w) k (rw length-scripts h))));
-  }
+  module _ (before : List ℕ) (at x from end : ℕ) (now : List ℕ) (v : Listed before at x from end now) where
+    -- there is one script more
+    pub listed-fits : (count : ℕ) → x < count → count * n ≤ length room → from + n ≤ length room
+    listed-fits count h l = omega (arith, v .place, next-place x, mul-le-mul-right n next)
+      where
+        next : x + 1 ≤ count
+        next = omega arith
 
-  -- fewer than a hundred are all
-  pub listed-all : (k : ℕ) → howMany g w ≤ k → k ≤ mostListed → take k (scripts g w) ≡ take mostListed (scripts g w)
-  listed-all k h l = take-all k (scripts g w) (rw length-scripts h) ∙ sym (take-all mostListed (scripts g w) (rw length-scripts (omega arith)))
+    pub listed-step : (r : ℕ) (after : List ℕ) → r ≤ end + lineBytes → take r after ≡ take end now ++ line (take (from + n - from) (drop from room))
+        → Listed before at (x + 1) (from + n) r after
+    listed-step r after l e = record {
+      place = omega (arith, v .place, next-place x);
+      small = let s = v .small in omega arith;
+      text = e ∙ ap₂ (λ (t m : List ℕ). t ++ m) (v .text) same ∙ append-assoc (take at before) (linesOf x) _ ∙ ap (λ (t : List ℕ). take at before ++ t) (sym (lines-next x));
+    }
+      where
+        size : from + n - from ≡ n
+        size = omega arith
 
--- numbers below a held number are below the number and below the limit, and so is what is not reached
-pub below-held : (k t m : ℕ) → t ≡ held m → k < t → (k < limit) × (k < m)
-below-held k t m e h = (omega arith, omega arith)
-
-pub past-held : (k t m : ℕ) → t ≡ held m → k < limit → t ≤ k → m ≤ k
-past-held k t m e l h = omega arith
+        same : line (take (from + n - from) (drop from room)) ≡ line (take n (drop (x * n) room))
+        same = rw (size, v .place)
 
 -- ---- one outcome only
 pub listing-only : (b e o u : List ℕ) → ListingIs b e o → ListingIs b e u → o ≡ u

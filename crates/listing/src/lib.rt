@@ -79,10 +79,12 @@ fn write_readings(image: &[u8], events: &[u16], out: &mut [u8]) -> usize
     ensures { λ r. ⌜ (r ≤ length (now (out .exit))) × (take r (now (out .exit)) ≡ listing (decode (now (image .entry))) (now (events .entry))) ⌝ }
 {
     let mut table = [0u32; TABLE_WORDS];
-    table::fill_table(image, events, &mut table);
+    let mut room = [0u16; MOST_LISTED as usize * SCRIPT_WORDS];
+    let paged = readings::page(image, events, 0, MOST_LISTED, &mut table, &mut room);
     let total = table::total_in(image, events, &table);
     let end = write_heading(out, total);
-    lines::write_lines(image, events, &table, total, out, end)
+    let words = derivation::script_words(events.len());
+    lines::write_lines(&room, words, paged.written, out, end)
 }
 
 // Writes the listing for the bytes of a grammar file and of an event file; answers how many bytes.
