@@ -1,15 +1,15 @@
 -- What each rule's number gives, and what a sound grammar gives to the services: symbols in range, rules that rise, none twice.
 -- Assumes nothing.
-use Prim.Native.Nat.{ℕ, _-_, _≤_, _<_, max}
-use native.Mathlib.Nat.{lt-of-le-of-lt, le-of-eq}
+use Prim.Native.Nat.{ℕ, _+_, _-_, _≤_, _<_, max}
+use native.Mathlib.Nat.{lt-of-le-of-lt, le-of-eq, le-of-lt, add-sub-cancel-left}
 use native.Mathlib.Decide.{decLt}
 use native.Mathlib.Omega.{arith}
-use mathlib.Core.Path.{_≡_, sym, ap, _∙_, subst}
+use mathlib.Core.Path.{_≡_, sym, ap, _∙_, subst, subst₂}
 use mathlib.Core.List.{List, [], _∷_, map}
 use lib.ListN.{getD, length-map, List·getD-append}
 use lib.Seq.{getD-append-add}
-use Rattle.derivation.specs.Order.{Before}
-use Rattle.derivation.specs.Grammar.{EventRule, PairRule, Grammar, leafCount, ruleCount, eventRule, pairRule, byRule, ruleSymbol}
+use Rattle.derivation.specs.Order.{Before, less, equal}
+use Rattle.derivation.specs.Grammar.{EventRule, PairRule, Grammar, leafCount, pairCount, ruleCount, eventRule, pairRule, byRule, ruleSymbol}
 use Rattle.derivation.specs.Sound.{highest, asNumbers, Sound}
 use Rattle.derivation.specs.Tree.{Tree, leaf, node, Derives}
 use Rattle.derivation.proofs.Lists.{map-at}
@@ -86,6 +86,11 @@ module _ (g : Grammar) (s : Sound g) where
   derives-fits w A i k (node r j t u) d = rw (← (d .0 .symbol)) (pair-fits r (d .0 .low) (d .0 .high) .symbol)
 
 -- ---- rules rise, so none stands twice
+-- the first number of the earlier list is not the larger one
+first-rises : {x y : ℕ} {xs ys : List ℕ} → Before (x ∷ xs) (y ∷ ys) → x ≤ y
+first-rises (less h) = le-of-lt h
+first-rises (equal e h) = omega arith
+
 module _ (g : Grammar) (s : Sound g) where
   pub leaves-rise : (r q : ℕ) → r < q → q < leafCount g → Before (asNumbers g r) (asNumbers g q)
   leaves-rise r q l m = rises-far (asNumbers g) 0 (leafCount g) (λ k z h. s .rising k (omega arith) z (λ e. omega arith)) r q (omega arith) l m
@@ -93,6 +98,22 @@ module _ (g : Grammar) (s : Sound g) where
   pub pairs-rise : (r q : ℕ) → leafCount g ≤ r → r < q → q < ruleCount g → Before (asNumbers g r) (asNumbers g q)
   pairs-rise r q z l m =
       rises-far (asNumbers g) (leafCount g) (ruleCount g) (λ k z h. s .rising k h (omega arith) (λ e. omega arith)) r q z l m
+
+  -- the same in terms of what the rules have: of event rules both numbers, of pair rules the symbols
+  pub leaf-before : (r q : ℕ) → r < q → q < leafCount g
+      → Before (eventRule g r .symbol ∷ eventRule g r .event ∷ []) (eventRule g q .symbol ∷ eventRule g q .event ∷ [])
+  leaf-before r q l m = subst₂ Before (as-leaf r (omega arith)) (as-leaf q m) (leaves-rise r q l m)
+    where
+      as-leaf : (d : ℕ) → d < leafCount g → asNumbers g d ≡ eventRule g d .symbol ∷ eventRule g d .event ∷ []
+      as-leaf d h = by-leaf _ _ g [] d h
+
+  pub symbols-rise : (b c : ℕ) → b < c → c < pairCount g → pairRule g b .symbol ≤ pairRule g c .symbol
+  symbols-rise b c l h =
+      let low : leafCount g ≤ leafCount g + b = omega arith in
+      first-rises (subst₂ Before (as-pair b (omega arith)) (as-pair c h) (pairs-rise (leafCount g + b) (leafCount g + c) low (omega arith) (omega arith)))
+    where
+      as-pair : (d : ℕ) → d < pairCount g → asNumbers g (leafCount g + d) ≡ pairRule g d .symbol ∷ pairRule g d .left ∷ pairRule g d .right ∷ []
+      as-pair d m = by-pair _ _ g [] (leafCount g + d) (omega arith) (omega arith) ∙ ap (λ (k : ℕ). pairRule g k .symbol ∷ pairRule g k .left ∷ pairRule g k .right ∷ []) (add-sub-cancel-left _ _)
 
   -- two equal rules would be one that is before itself
   same-rule : (r q : ℕ) → asNumbers g r ≡ asNumbers g q → Before (asNumbers g r) (asNumbers g q) → ⊥

@@ -1,7 +1,6 @@
 -- Words copied to right behind them: one turn of the loop.
 -- Assumes nothing.
-use Prim.Native.Nat.{ℕ, zero, _+_, _≤_, _<_}
-use native.Mathlib.Nat.{le-of-lt}
+use Prim.Native.Nat.{ℕ, _+_, _≤_, _<_}
 use native.Mathlib.Numerals.{add-one}
 use native.Mathlib.Omega.{arith}
 use mathlib.Core.Path.{_≡_, sym, ap, _∙_}

@@ -1,30 +1,28 @@
 -- Behind the last derivation by a rule and a split stands the first by the next rule and split that have one.
 -- Assumes nothing.
 use Prim.Native.Nat.{ℕ, _+_, _-_, _*_, _≤_, _<_}
-use native.Mathlib.Nat.{zero-mul, mul-zero, mul-one, suc-mul, add-assoc, le-of-lt, eq-zero-or-pos, add-sub-cancel-left}
+use native.Mathlib.Nat.{zero-mul, mul-zero, mul-one, suc-mul, add-assoc, le-of-lt, eq-zero-or-pos}
 use native.Mathlib.Numerals.{add-one}
 use native.Mathlib.Decide.{ℕ-discrete}
 use native.Mathlib.Omega.{arith}
 use mathlib.Core.Path.{_≡_, refl, sym, ap, subst, _∙_}
 use mathlib.Core.Logic.{_≢_, ⊎-elim}
 use mathlib.Core.Bool.{Bool, true, false}
-use mathlib.Core.List.{List, _∷_, []}
-use lib.ListN.{length, getD}
+use mathlib.Core.List.{List}
+use lib.ListN.{getD}
 use lib.Dec.{lit<}
 use Rattle.bits.specs.Sum.{sum, between}
 use Rattle.bits.proofs.Truths.{same-eq, same-other}
 use Rattle.bits.proofs.Sums.{sum-more, sum-zero, sum-skip, between-none, between-more}
-use Rattle.derivation.specs.Grammar.{Grammar, leafCount, pairCount, ruleCount, pairRule}
-use Rattle.derivation.specs.Order.{Before, less, equal}
-use Rattle.derivation.specs.Sound.{Sound, asNumbers}
+use Rattle.derivation.specs.Grammar.{Grammar, leafCount, pairCount, pairRule}
+use Rattle.derivation.specs.Sound.{Sound}
 use Rattle.derivation.specs.Tree.{node}
 use Rattle.derivation.specs.Derivations.{derivations, count}
 use Rattle.derivation.specs.Numbering.{none}
-use Rattle.derivation.proofs.Sound.{pair-symbol, pair-numbers, pairs-rise}
+use Rattle.derivation.proofs.Sound.{symbols-rise}
 use Rattle.derivation.proofs.Counts.{bySplit, byPair, count-more}
 use Rattle.derivation.proofs.Numbering.{derivations-numbered}
 use Rattle.derivation.proofs.Places.{node-at, node-room}
-use Rattle.table.specs.Table.{limit, held}
 use Rattle.table.specs.Fill.{splitAdds}
 use Rattle.table.proofs.Adds.{Ready, split-counted}
 use Rattle.unrank.specs.Choice.{Planned}
@@ -61,11 +59,6 @@ sum-still : (m n : ℕ) (f : ℕ → ℕ) → m ≤ n → ((x : ℕ) → m ≤ x
 sum-still m n f l z =
     let e : n ≡ m + (n - m) = omega arith in
     rw e (sum-skip m (n - m) f (λ x h. z (m + x) (omega arith) (omega arith)))
-
--- the first number of the earlier list is not the larger one
-first-rises : {x y : ℕ} {xs ys : List ℕ} → Before (x ∷ xs) (y ∷ ys) → x ≤ y
-first-rises (less h) = le-of-lt h
-first-rises (equal e h) = omega arith
 
 module _ (g : Grammar) (w : List ℕ) (A i k : ℕ) where
   -- how many stand before those by pair rule b and the split j
@@ -149,19 +142,6 @@ module _ (g : Grammar) (ok : Sound g) (w t : List ℕ) (A i k : ℕ) (r : Ready 
   rules-over P h e = omega (arith, between-none i (i + 1) (bySplit g w A i k (pairCount g)) (omega arith), count-more g w A i k h)
 
   -- rules rise, so behind a rule of another symbol than the one before it there is none of that
-  symbols-rise : (b c : ℕ) → b < c → c < pairCount g → pairRule g b .symbol ≤ pairRule g c .symbol
-  symbols-rise b c l h =
-      let low : leafCount g ≤ leafCount g + b = omega arith in
-      let more : leafCount g + b < leafCount g + c = omega arith in
-      let high : leafCount g + c < ruleCount g = omega arith in
-      first-rises (rw (as-pair b (omega arith), as-pair c h) at (pairs-rise g ok (leafCount g + b) (leafCount g + c) low more high))
-    where
-      as-pair : (d : ℕ) → d < pairCount g → asNumbers g (leafCount g + d) ≡ pairRule g d .symbol ∷ pairRule g d .left ∷ pairRule g d .right ∷ []
-      as-pair d m =
-          let low : leafCount g ≤ leafCount g + d = omega arith in
-          let high : leafCount g + d < ruleCount g = omega arith in
-          rw add-sub-cancel-left at (rw (pair-symbol g (leafCount g + d) low high) at (pair-numbers g (leafCount g + d) low high))
-
   other-gives-none : (d : ℕ) → pairRule g d .symbol ≢ A → byPair g w A i k d ≡ 0
   unfolding byPair bySplit between
   other-gives-none d n = sum-zero _ _ (λ x y. rw (same-other (pairRule g d .symbol) A n) (mul-zero _))
@@ -179,7 +159,7 @@ module _ (g : Grammar) (ok : Sound g) (w t : List ℕ) (A i k : ℕ) (r : Ready 
       other : (d : ℕ) → c ≤ d → d < pairCount g → pairRule g d .symbol ≢ A
       other d a z f = elim (ℕ-discrete c d) [
         | yes y ↦ ec (rw y f)
-        | no y ↦ ec (omega (arith, symbols-rise b c l m, symbols-rise c d (omega arith) z))
+        | no y ↦ ec (omega (arith, symbols-rise g ok b c l m, symbols-rise g ok c d (omega arith) z))
       ]
 
 -- ---- the walk over the rules from b on: `from` is the split in rule c from which on it has not looked yet

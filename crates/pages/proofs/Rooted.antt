@@ -1,24 +1,22 @@
 -- The root of a derivation over more than one event, in the words of its script; and the next derivation from a step of its parts, or from the
 -- plan behind it.
 -- Assumes nothing.
-use Prim.Native.Nat.{ℕ, suc, _+_, _-_, _*_, _≤_, _<_}
-use native.Mathlib.Nat.{add-assoc}
-use native.Mathlib.Decide.{decLt}
+use Prim.Native.Nat.{ℕ, _+_, _-_, _*_, _≤_, _<_}
 use native.Mathlib.Omega.{arith}
-use mathlib.Core.Path.{_≡_, refl, sym, ap, subst, _∙_}
+use mathlib.Core.Path.{_≡_, refl, sym, ap, _∙_}
 use mathlib.Core.Logic.{_≢_}
 use mathlib.Core.Bool.{Bool, true, false}
-use mathlib.Core.List.{List, [], _∷_, _++_, append-assoc}
+use mathlib.Core.List.{List, _∷_, _++_, append-assoc}
 use lib.ListN.{length, getD, drop, length-append}
 use lib.Seq.{drop-at}
 use Rattle.bits.specs.Sum.{sum, between}
-use Rattle.derivation.specs.Grammar.{Grammar, leafCount, pairCount, ruleCount, pairRule}
+use Rattle.derivation.specs.Grammar.{Grammar, leafCount, pairCount, pairRule}
 use Rattle.derivation.specs.Sound.{Sound}
 use Rattle.derivation.specs.Tree.{Tree, leaf, node, Derives, script, scriptWords}
 use Rattle.derivation.specs.Derivations.{derivations, count}
 use Rattle.derivation.specs.Numbering.{none}
 use Rattle.derivation.proofs.Sound.{derives-fits}
-use Rattle.derivation.proofs.Counts.{of-count, byPair, bySplit}
+use Rattle.derivation.proofs.Counts.{byPair, bySplit}
 use Rattle.derivation.proofs.Numbering.{derivations-numbered}
 use Rattle.derivation.proofs.Places.{leaf-first, node-at, node-room}
 use Rattle.lookup.specs.declared.Pair.{Pair}
@@ -30,7 +28,7 @@ use Rattle.unrank.specs.Choice.{PlanOk, planTree, Planned}
 use Rattle.unrank.proofs.Room.{script-words}
 use Rattle.pages.specs.declared.next.Next.{Next}
 use Rattle.pages.specs.Step.{Begins, Begun, Stepped, Parted, SomeParted, PartsNext, PartsLast, PartsTo, PartsStepped, LastBy, Followed, NextIs}
-use Rattle.pages.proofs.Following.{start, placed}
+use Rattle.pages.proofs.Following.{placed}
 
 -- derivation number q is by pair rule b and the split j, and the room begins with it
 pub record Rooted (g : Grammar) (w : List ℕ) (A i k b j q : ℕ) (rest room : List ℕ) : Type 0 where

@@ -1,28 +1,21 @@
 -- The words of a node and of its two parts, and what a step of each part leaves of them.
 -- Assumes nothing.
-use Prim.Native.Nat.{ℕ, suc, _+_, _-_, _*_, _≤_, _<_}
+use Prim.Native.Nat.{ℕ, _+_, _-_, _*_, _<_}
 use native.Mathlib.Nat.{suc-mul}
 use native.Mathlib.Numerals.{add-one}
-use native.Mathlib.Decide.{decLt}
 use native.Mathlib.Omega.{arith}
-use mathlib.Core.Path.{_≡_, refl, sym, ap, subst, _∙_}
+use mathlib.Core.Path.{_≡_, refl, sym, ap, _∙_}
 use mathlib.Core.Bool.{Bool, true, false}
-use mathlib.Core.List.{List, [], _∷_, _++_, append-assoc, append-nil}
-use lib.ListN.{length, getD, take, drop, length-append, length-drop}
+use mathlib.Core.List.{List, [], _∷_, _++_, append-nil}
+use lib.ListN.{length, getD, take, drop, length-append}
 use lib.Seq.{take-at, drop-at, drop-length}
-use Rattle.derivation.specs.Grammar.{Grammar, leafCount, pairCount, ruleCount, pairRule}
-use Rattle.derivation.specs.Sound.{Sound}
-use Rattle.derivation.specs.Tree.{Tree, leaf, node, Derives, script, scriptWords}
+use Rattle.derivation.specs.Grammar.{Grammar}
+use Rattle.derivation.specs.Tree.{script, scriptWords}
 use Rattle.derivation.specs.Derivations.{derivations, count}
 use Rattle.derivation.specs.Numbering.{none}
-use Rattle.derivation.proofs.Sound.{derives-fits}
-use Rattle.derivation.proofs.Counts.{of-count, byPair, bySplit}
-use Rattle.derivation.proofs.Numbering.{derivations-numbered}
-use Rattle.derivation.proofs.Places.{leaf-first, node-at, node-room}
 use Rattle.lookup.specs.declared.Pair.{Pair}
-use Rattle.lookup.specs.Rule.{PairIs}
 use Rattle.unrank.proofs.Room.{tail, back, tail-is, script-words}
-use Rattle.pages.specs.Step.{Begins, StepsTo, Stepped, Parted, PartsNext, PartsLast, PartsTo, PartsStepped}
+use Rattle.pages.specs.Step.{Begins, StepsTo, Stepped, Parted, PartsNext, PartsLast}
 
 -- ---- a part of a slice that comes back with other words
 pub back-all : (a : ℕ) (l p q y : List ℕ) → l ≡ p ++ q → length p ≡ a → back a l y ≡ p ++ y

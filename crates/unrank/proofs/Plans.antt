@@ -158,10 +158,6 @@ module _ (g : Grammar) (x A n r rest : ℕ) (h : n ≡ sum r (leafAdds g x A) + 
   pub leaf-found : (ok : Bool) → Decides ok (Turns g r A x) → ok ≡ true → rest ≡ 0 → r < leafCount g → ChosenLeaf g x A n r
   leaf-found ok d e z l = let y = holds (Turns g r A x) ok e d in record { known = l; symbol = y .symbol; event = y .event; place = omega arith }
 
-pub choose-start : (f : ℕ → ℕ) (n : ℕ) → n ≡ sum 0 f + n
-unfolding sum
-choose-start f n = omega arith
-
 pub leaf-some : (g : Grammar) (w : List ℕ) (A i k n x : ℕ) → k ≡ i + 1 → x ≡ getD w i 0 → i < length w → n < count g w A i k → n < sum (leafCount g) (leafAdds g x A)
 leaf-some g w A i k n x ek ex h l = rw (ex, leaf-counted g w A i h) (rw ek at l)
 

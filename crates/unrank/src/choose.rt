@@ -1,4 +1,6 @@
 // In whose share a number falls: the rules in their order, and for a pair rule its splits in theirs.
+use super::begin::first_leaf;
+use super::begin::first_pair;
 ghost use Prim.Native.Nat.{_+_, _≤_, _<_};
 ghost use lib.ListN.{length};
 ghost use Rattle.bits.specs.Sum.{sum};
@@ -64,8 +66,9 @@ fn choose_pair(image: &[u8], table: &[u32], symbol: usize, i: usize, k: usize, r
     let symbols = layout::symbol_count(image);
     let leaves = layout::leaf_count(image);
     let pairs = layout::pair_count(image);
+    let first = first_pair(image, symbol);
     let mut rest = rank;
-    for b in 0..pairs {
+    for b in first..pairs {
         let p = lookup::pair_of(image, leaves, b);
         if p.symbol == symbol {
             let s = pick_split(table, symbols, p.left, p.right, i, k, rest);
@@ -93,8 +96,9 @@ pub fn choose_leaf(image: &[u8], event: usize, symbol: usize, rank: u32) -> usiz
     ensures { λ r. ⌜ ChosenLeaf (decode (now (image .entry))) event symbol rank r × (r < 65536) ⌝ }
 {
     let leaves = layout::leaf_count(image);
+    let first = first_leaf(image, symbol, event);
     let mut rest = rank;
-    for r in 0..leaves {
+    for r in first..leaves {
         if lookup::turns(image, r, symbol, event) {
             if rest == 0 {
                 return r;

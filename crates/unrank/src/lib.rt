@@ -1,4 +1,5 @@
 // From a number to the script of the reading that has it. The table has to be filled.
+mod begin; // where the rules of a symbol begin
 pub mod choose; // which rule and split a number is by
 
 use choose::Plan;
@@ -19,7 +20,7 @@ ghost use Rattle.table.specs.Fill.{CountsIn};
 ghost use Rattle.unrank.specs.Choice.{PlanOk, planTree};
 
 // The two words of a node.
-pub fn put_root(room: &mut [u16], rule: usize, split: usize)
+fn put_root(room: &mut [u16], rule: usize, split: usize)
     requires { ⌜ (2 ≤ length (now room)) × (rule < 65536) × (split < 65536) ⌝ }
     ensures { λ _. ⌜ now (room .exit) ≡ rule ∷ split ∷ drop 2 (now (room .entry)) ⌝ }
 {

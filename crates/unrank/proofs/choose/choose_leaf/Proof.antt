@@ -8,22 +8,28 @@ use Rattle.bits.specs.Sum.{sum}
 use Rattle.derivation.specs.Grammar.{leafCount}
 use Rattle.layout.specs.Layout.{decode}
 use Rattle.table.specs.Fill.{leafAdds}
-use Rattle.unrank.proofs.Plans.{choose-start, leaf-past, leaf-skip, leaf-found}
+use Rattle.unrank.proofs.Plans.{leaf-past, leaf-skip, leaf-found}
+use Rattle.unrank.proofs.Begins.{leaves-nothing, choose-from}
 use borrow.Author.Needs.{needs}
 use Rattle.unrank.proofs.choose.choose_leaf.Statement.{statement}
 use Rattle.unrank.proofs.choose.choose_leaf.Tie as tie
 
 abbrev Inv-loop : tie.InvT-loop
-Inv-loop image event symbol rank leaves rest₀ r₀ rest r = (r ≤ leaves) × (rank ≡ sum r (leafAdds (decode image) event symbol) + rest)
+Inv-loop image event symbol rank leaves first rest₀ r₀ rest r = (r ≤ leaves) × (rank ≡ sum r (leafAdds (decode image) event symbol) + rest)
 
 abbrev μ-loop : tie.MeasureT-loop
-μ-loop image event symbol rank leaves rest₀ r₀ rest r = leaves - r
+μ-loop image event symbol rank leaves first rest₀ r₀ rest r = leaves - r
 
 leaf-count-requires : tie.Need-leaf-count-requires Inv-loop μ-loop
 leaf-count-requires c κs = search needs
 
+first-leaf-requires : tie.Need-first-leaf-requires Inv-loop μ-loop
+first-leaf-requires c κs = search needs
+
 loop-holds : tie.Need-loop-holds Inv-loop μ-loop
-loop-holds c = (omega arith, choose-start _ _)
+loop-holds c =
+    let p = c .first-leaf .ensures in
+    (omega (arith, p .known, c .before .leaf-count .ensures .0), choose-from _ _ _ (leaves-nothing _ _ _ _ p))
 
 turns-requires : tie.Need-turns-requires Inv-loop μ-loop
 turns-requires c κs = search needs
@@ -33,7 +39,7 @@ returns c =
     let v = c .before .before .before .before .loop .inv in
     let s = c .before .before .turns in
     let lt = c .before .before .before .loop-test .taken in
-    let n = c .before .before .before .before .before .leaf-count .ensures in
+    let n = c .before .before .before .before .before .before .leaf-count .ensures in
     (leaf-found _ _ _ _ _ _ (v .1) (s .result) (s .ensures) (c .before .if1 .taken) (c .if2 .taken) (omega (arith, lt, n .0)), omega (arith, lt, n .1))
 
 sub-rest : tie.Need-sub-rest Inv-loop μ-loop
@@ -58,8 +64,8 @@ loop-again c =
 returns-2 : tie.Need-returns-2 Inv-loop μ-loop
 returns-2 c =
     let v = c .before .loop .inv in
-    let e : c .before .loop .r ≡ leafCount (decode (c .before .before .before .before .args .image .now)) = omega arith in
-    absurd (omega (arith, rw e at (v .1), c .before .before .before .before .pre .1))
+    let e : c .before .loop .r ≡ leafCount (decode (c .before .before .before .before .before .args .image .now)) = omega arith in
+    absurd (omega (arith, rw e at (v .1), c .before .before .before .before .before .pre .1))
 
 pub choose-leaf-spec : {M : Type 1} → statement M
 choose-leaf-spec =
@@ -68,6 +74,7 @@ choose-leaf-spec =
     Inv-loop
     μ-loop
     leaf-count-requires
+    first-leaf-requires
     loop-holds
     turns-requires
     returns

@@ -8,16 +8,17 @@ use Rattle.bits.specs.Sum.{sum}
 use Rattle.derivation.specs.Grammar.{pairCount}
 use Rattle.layout.specs.Layout.{decode}
 use Rattle.table.specs.Fill.{pairAdds}
-use Rattle.unrank.proofs.Plans.{choose-start, split-yes, split-no, rule-past, rule-skip, rule-found}
+use Rattle.unrank.proofs.Plans.{split-yes, split-no, rule-past, rule-skip, rule-found}
+use Rattle.unrank.proofs.Begins.{pairs-nothing, choose-from}
 use borrow.Author.Needs.{needs}
 use Rattle.unrank.proofs.choose.choose_pair.Statement.{statement}
 use Rattle.unrank.proofs.choose.choose_pair.Tie as tie
 
 abbrev Inv-loop : tie.InvT-loop
-Inv-loop image table symbol i k rank symbols leaves pairs rest₀ b₀ rest b = (b ≤ pairs) × (rank ≡ sum b (pairAdds (decode image) table i k symbol) + rest)
+Inv-loop image table symbol i k rank symbols leaves pairs first rest₀ b₀ rest b = (b ≤ pairs) × (rank ≡ sum b (pairAdds (decode image) table i k symbol) + rest)
 
 abbrev μ-loop : tie.MeasureT-loop
-μ-loop image table symbol i k rank symbols leaves pairs rest₀ b₀ rest b = pairs - b
+μ-loop image table symbol i k rank symbols leaves pairs first rest₀ b₀ rest b = pairs - b
 
 symbol-count-requires : tie.Need-symbol-count-requires Inv-loop μ-loop
 symbol-count-requires c κs = search needs
@@ -28,23 +29,28 @@ leaf-count-requires c κs = search needs
 pair-count-requires : tie.Need-pair-count-requires Inv-loop μ-loop
 pair-count-requires c κs = search needs
 
+first-pair-requires : tie.Need-first-pair-requires Inv-loop μ-loop
+first-pair-requires c κs = search needs
+
 loop-holds : tie.Need-loop-holds Inv-loop μ-loop
-loop-holds c = (omega arith, choose-start _ _)
+loop-holds c =
+    let p = c .first-pair .ensures in
+    (omega (arith, p .known, c .before .pair-count .ensures .0), choose-from _ _ _ (pairs-nothing _ _ _ _ _ _ p))
 
 pair-of-requires : tie.Need-pair-of-requires Inv-loop μ-loop
 pair-of-requires c κs = search needs
 
 pick-split-requires : tie.Need-pick-split-requires Inv-loop μ-loop
 pick-split-requires c κs =
-    let p = c .before .before .before .before .before .before .before .before .before .before .pre .1 in
-    let n = c .before .before .before .before .before .before .before .symbol-count .ensures .0 in
+    let p = c .before .before .before .before .before .before .before .before .before .before .before .pre .1 in
+    let n = c .before .before .before .before .before .before .before .before .symbol-count .ensures .0 in
     let a = c .before .before .pair-of .ensures in
     record { symbols = rw n (a .few); left = rw n (a .left-fits); right = rw n (a .right-fits); some = p .0 .0; few = p .0 .1; fits = rw n (p .0 .2) }
 
 returns : tie.Need-returns Inv-loop μ-loop
 returns c =
-    rule-found _ _ _ _ _ _ _ _ (c .before .before .before .before .before .before .loop .inv .1) _ _ (c .before .before .before .before .before .before .before .before .before .symbol-count .ensures .0) (c .before .before .before .before .pair-of .ensures) _ _
-    (omega (arith, c .before .before .before .before .before .before .before .pair-count .ensures .0, c .before .before .before .before .before .loop-test .taken)) (c .before .before .if1 .taken)
+    rule-found _ _ _ _ _ _ _ _ (c .before .before .before .before .before .before .loop .inv .1) _ _ (c .before .before .before .before .before .before .before .before .before .before .symbol-count .ensures .0) (c .before .before .before .before .pair-of .ensures) _ _
+    (omega (arith, c .before .before .before .before .before .before .before .before .pair-count .ensures .0, c .before .before .before .before .before .loop-test .taken)) (c .before .before .if1 .taken)
     (split-yes _ _ _ _ _ _ _ _ _ _ (c .before .pick-split .ensures) (c .if2 .taken))
 
 add-b : tie.Need-add-b Inv-loop μ-loop
@@ -57,7 +63,7 @@ loop-again : tie.Need-loop-again Inv-loop μ-loop
 loop-again c =
     let v = c .before .before .before .before .loop .inv in
     let lt = c .before .before .before .loop-test .taken in
-    let n = c .before .before .before .before .before .before .before .symbol-count .ensures .0 in
+    let n = c .before .before .before .before .before .before .before .before .symbol-count .ensures .0 in
     let a = c .before .before .pair-of .ensures in
     ⊎-elim
     (λ w. (omega (arith, lt), rw (w .3) (rule-past _ _ _ _ _ _ _ _ (v .1) _ _ n a _ (w .0 .taken) (split-no _ _ _ _ _ _ _ _ _ _ (w .1 .ensures) (w .2 .left)))))
@@ -67,8 +73,8 @@ loop-again c =
 returns-2 : tie.Need-returns-2 Inv-loop μ-loop
 returns-2 c =
     let v = c .before .loop .inv in
-    let e : c .before .loop .b ≡ pairCount (decode (c .before .before .before .before .before .before .before .args .image .now)) = omega arith in
-    absurd (omega (arith, rw e at (v .1), c .before .before .before .before .before .before .before .pre .1 .1))
+    let e : c .before .loop .b ≡ pairCount (decode (c .before .before .before .before .before .before .before .before .args .image .now)) = omega arith in
+    absurd (omega (arith, rw e at (v .1), c .before .before .before .before .before .before .before .before .pre .1 .1))
 
 pub choose-pair-spec : {M : Type 1} → statement M
 choose-pair-spec =
@@ -79,6 +85,7 @@ choose-pair-spec =
     symbol-count-requires
     leaf-count-requires
     pair-count-requires
+    first-pair-requires
     loop-holds
     pair-of-requires
     pick-split-requires
