@@ -3,7 +3,7 @@
 use mathlib.Core.Path.{_≡_, refl, sym, ap, ap₂, _∙_}
 use mathlib.Core.List.{List, [], _++_, append-assoc}
 use Prim.Native.Nat.{ℕ, zero, suc, _+_, _*_, _≤_, _<_}
-use native.Mathlib.Nat.{zero-mul, suc-mul}
+use native.Mathlib.Nat.{add-zero, zero-mul, suc-mul}
 use native.Mathlib.Numerals.{add-one}
 use native.Mathlib.Decide.{decLt}
 use native.Mathlib.Omega.{arith}
@@ -34,6 +34,9 @@ module _ (g : Grammar) (w : List ℕ) where
 
   pub page-more : (k c : ℕ) → pageOf g w k (c + 1) ≡ pageOf g w k c ++ spelling (getD (readings g w) (k + c) quiet)
   page-more k c = rw add-one (page-next k c)
+
+  pub page-one : (k : ℕ) → pageOf g w k 1 ≡ spelling (getD (readings g w) k quiet)
+  page-one k = page-more k 0 ∙ rw (page-none k, add-zero k)
 
   pub page-length : (k c : ℕ) → k + c ≤ length (readings g w) → length (pageOf g w k c) ≡ c * W
   page-length k zero h = ap length (page-none k) ∙ sym (zero-mul W)

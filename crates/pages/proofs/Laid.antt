@@ -1,7 +1,7 @@
 -- What the room holds before the first script of a page, after it, and after each other one.
 -- Assumes nothing.
 use Prim.Native.Nat.{ℕ, _+_, _-_, _*_, _≤_, _<_}
-use native.Mathlib.Nat.{add-zero, zero-mul, mul-zero, one-mul, suc-mul, le-trans, mul-le-mul-right}
+use native.Mathlib.Nat.{zero-mul, mul-zero, one-mul, suc-mul, le-trans, mul-le-mul-right}
 use native.Mathlib.Numerals.{add-one}
 use native.Mathlib.Omega.{arith}
 use mathlib.Core.Path.{_≡_, sym, ap, ap₂, _∙_}
@@ -15,7 +15,7 @@ use Rattle.derivation.specs.Reading.{quiet, spelling}
 use Rattle.derivation.specs.Derivations.{readings, pageOf}
 use Rattle.derivation.proofs.Lists.{no-length}
 use Rattle.derivation.proofs.Readings.{count-events, reading-at}
-use Rattle.derivation.proofs.Pages.{script-long, page-none, page-more, page-length}
+use Rattle.derivation.proofs.Pages.{script-long, page-one, page-more, page-length}
 use Rattle.unrank.proofs.Room.{tail, back}
 use Rattle.pages.specs.Step.{Begins, Stepped}
 use Rattle.pages.proofs.Stepping.{back-all, tail-all, steps-on}
@@ -74,10 +74,7 @@ module _ (g : Grammar) (w : List ℕ) (k count : ℕ) (some : k + count ≤ leng
       rw (← d) (sym (drop-drop (count * W - W) W before) ∙ ap (drop (count * W - W)) first-rest ∙ drop-drop (count * W - W) W entry)
 
   pub laid-first : Laid g w k count before 1 W before
-  laid-first = record { most = omega arith; place = sym (one-mul W); text = e ∙ ap₂ _++_ (sym one-page) (sym first-rest) }
-    where
-      one-page : pageOf g w k 1 ≡ first
-      one-page = page-more g w k 0 ∙ rw (page-none g w k, add-zero k)
+  laid-first = record { most = omega arith; place = sym (one-mul W); text = e ∙ ap₂ _++_ (sym (page-one g w k)) (sym first-rest) }
 
   module _ (x end : ℕ) (now : List ℕ) (l : Laid g w k count before x end now) where
     long : length (pageOf g w k x) ≡ end

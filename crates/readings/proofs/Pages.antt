@@ -1,14 +1,15 @@
--- How many scripts a page has, from the number of readings held at the limit; and that a page has the same words as single calls.
+-- How many scripts a page has, from the number of readings held at the limit; that a page of one is a reading; and that a page has the same words
+-- as single calls.
 -- Assumes nothing.
 use mathlib.Core.Path.{_≡_, refl, sym, ap, _∙_}
 use mathlib.Core.Logic.{inl, inr}
 use mathlib.Core.List.{List, [], _∷_, _++_}
 use Prim.Native.Nat.{ℕ, _+_, _-_, _*_, _≤_, _<_, min}
-use native.Mathlib.Nat.{le-trans, mul-le-mul-right}
+use native.Mathlib.Nat.{le-trans, one-mul, mul-le-mul-right}
 use native.Mathlib.Omega.{arith}
 use lib.ListN.{length, take, drop}
 use Rattle.derivation.specs.Tree.{scriptWords}
-use Rattle.derivation.proofs.Pages.{page-at}
+use Rattle.derivation.proofs.Pages.{page-one, page-at}
 use Rattle.layout.specs.Layout.{decode}
 use Rattle.image.specs.Refusal.{Row, _unless_, FirstOf, First}
 use Rattle.image.proofs.Refusals.{AllHold, all-hold, first-only, past-zero, passed}
@@ -17,7 +18,7 @@ use Rattle.table.specs.Table.{limit, held}
 use Rattle.readings.specs.declared.Read.{Read}
 use Rattle.readings.specs.declared.Paged.{Paged}
 use Rattle.readings.specs.Count.{howMany}
-use Rattle.readings.specs.Reading.{lentRows, numberRows, ReadingIs}
+use Rattle.readings.specs.Reading.{lentRows, numberRows, readingRows, ReadingIs}
 use Rattle.readings.specs.Page.{onPage, PageIs}
 use Rattle.readings.specs.Demand.{Gave, written}
 use Rattle.readings.specs.Paging.{GavePage, writtenAt, ReadingPasses, Paging}
@@ -37,6 +38,28 @@ pub page-fits : (k m many t c n space : ℕ) → t ≡ held many → k < many �
 page-fits k m many t c n space e a b h few fits =
     let l : c ≤ m = omega arith in
     ((omega arith, le-trans (mul-le-mul-right (scriptWords n) l) fits), (omega arith, omega arith))
+
+-- ---- a page of one is a reading
+pub page-of-one : (b w : List ℕ) (k : ℕ) (table room : List ℕ) (r : Paged) (t o : List ℕ) → k ≤ limit → PageIs b w k 1 table room r t o
+    → ReadingIs b w k table room (record { number = r .number; rule = r .rule }) t o
+page-of-one b w k table room r t o small p = record {
+  number = number;
+  rule = p .rule;
+  filled = p .filled;
+  kept = p .kept;
+  written = λ z. rw (one z, one-mul) at (p .written z) ∙ ap (λ (s : List ℕ). s ++ drop (scriptWords (length w)) room) (page-one (decode b) w k);
+  unwritten = p .unwritten;
+}
+  where
+    number : First (readingRows b w k table room) (r .number)
+    number = rw one-mul at (p .number)
+
+    -- a number that is answered is below the count and the limit, so that one is left
+    one : r .number ≡ 0 → r .written ≡ 1
+    one z =
+        let n = number-ok k _ 0 refl (passed (lentRows b (length w) (length table) (scriptWords (length w)) (length room)) (numberRows k (howMany (decode b) w)) 0 (omega arith) (rw z at number)) small in
+        let e = p .answered z in
+        omega (arith, n .0, n .1)
 
 -- ---- beside single calls
 -- where a table holds, what follows it decides

@@ -67,33 +67,6 @@ pub fn count(image: &[u8], events: &[u16], table: &mut [u32]) -> Counted
     }
 }
 
-// Writes the script of reading number k to the front of the room, and fills the table.
-pub fn reading(image: &[u8], events: &[u16], k: u32, table: &mut [u32], room: &mut [u16]) -> Read
-    ensures { λ r. ⌜ ReadingIs (now (image .entry)) (now (events .entry)) k (now (table .entry)) (now (room .entry))
-        r (now (table .exit)) (now (room .exit)) ⌝ }
-{
-    let n = events.len();
-    let early = refuse::lent_refusal(image, n, table.len(), 1, room.len());
-    let number = early.number;
-    if number != 0 {
-        return Read {
-            number,
-            rule: early.rule,
-        };
-    }
-    table::fill_table(image, events, table);
-    let total = table::total_in(image, events, table);
-    let late = refuse::number_refusal(k, total);
-    if late != 0 {
-        return Read {
-            number: late,
-            rule: 0,
-        };
-    }
-    unrank::write_reading(image, events, table, k, room);
-    Read { number: 0, rule: 0 }
-}
-
 // How many of the numbers k to k + m - 1 are below the total.
 fn page_size(k: u32, m: u32, total: u32) -> u32
     requires { ⌜ k ≤ total ⌝ }
@@ -144,6 +117,18 @@ pub fn page(
         number: 0,
         rule: 0,
         written,
+    }
+}
+
+// Writes the script of reading number k to the front of the room, and fills the table: a page of one.
+pub fn reading(image: &[u8], events: &[u16], k: u32, table: &mut [u32], room: &mut [u16]) -> Read
+    ensures { λ r. ⌜ ReadingIs (now (image .entry)) (now (events .entry)) k (now (table .entry)) (now (room .entry))
+        r (now (table .exit)) (now (room .exit)) ⌝ }
+{
+    let paged = page(image, events, k, 1, table, room);
+    Read {
+        number: paged.number,
+        rule: paged.rule,
     }
 }
 
