@@ -99,21 +99,19 @@ module _ (g : Grammar) (s : Sound g) where
   pairs-rise r q z l m =
       rises-far (asNumbers g) (leafCount g) (ruleCount g) (λ k z h. s .rising k h (omega arith) (λ e. omega arith)) r q z l m
 
-  -- the same in terms of what the rules have: of event rules both numbers, of pair rules the symbols
-  pub leaf-before : (r q : ℕ) → r < q → q < leafCount g
-      → Before (eventRule g r .symbol ∷ eventRule g r .event ∷ []) (eventRule g q .symbol ∷ eventRule g q .event ∷ [])
-  leaf-before r q l m = subst₂ Before (as-leaf r (omega arith)) (as-leaf q m) (leaves-rise r q l m)
-    where
-      as-leaf : (d : ℕ) → d < leafCount g → asNumbers g d ≡ eventRule g d .symbol ∷ eventRule g d .event ∷ []
-      as-leaf d h = by-leaf _ _ g [] d h
+  -- so their symbols do, by the numbers of the rules, and of pair rules counted by themselves
+  pub leaf-symbols-rise : (r q : ℕ) → r < q → q < leafCount g → ruleSymbol g r ≤ ruleSymbol g q
+  leaf-symbols-rise r q l m = first-rises (subst₂ Before (leaf-numbers g r (omega arith)) (leaf-numbers g q m) (leaves-rise r q l m))
+
+  pub pair-symbols-rise : (r q : ℕ) → leafCount g ≤ r → r < q → q < ruleCount g → ruleSymbol g r ≤ ruleSymbol g q
+  pair-symbols-rise r q z l m = first-rises (subst₂ Before (pair-numbers g r z (omega arith)) (pair-numbers g q (omega arith) m) (pairs-rise r q z l m))
+
+  pub counted-symbol : (b : ℕ) → b < pairCount g → ruleSymbol g (leafCount g + b) ≡ pairRule g b .symbol
+  counted-symbol b h = pair-symbol g (leafCount g + b) (omega arith) (omega arith) ∙ ap (λ (k : ℕ). pairRule g k .symbol) (add-sub-cancel-left _ _)
 
   pub symbols-rise : (b c : ℕ) → b < c → c < pairCount g → pairRule g b .symbol ≤ pairRule g c .symbol
   symbols-rise b c l h =
-      let low : leafCount g ≤ leafCount g + b = omega arith in
-      first-rises (subst₂ Before (as-pair b (omega arith)) (as-pair c h) (pairs-rise (leafCount g + b) (leafCount g + c) low (omega arith) (omega arith)))
-    where
-      as-pair : (d : ℕ) → d < pairCount g → asNumbers g (leafCount g + d) ≡ pairRule g d .symbol ∷ pairRule g d .left ∷ pairRule g d .right ∷ []
-      as-pair d m = by-pair _ _ g [] (leafCount g + d) (omega arith) (omega arith) ∙ ap (λ (k : ℕ). pairRule g k .symbol ∷ pairRule g k .left ∷ pairRule g k .right ∷ []) (add-sub-cancel-left _ _)
+      omega (arith, counted-symbol b (omega arith), counted-symbol c h, pair-symbols-rise (leafCount g + b) (leafCount g + c) (omega arith) (omega arith) (omega arith))
 
   -- two equal rules would be one that is before itself
   same-rule : (r q : ℕ) → asNumbers g r ≡ asNumbers g q → Before (asNumbers g r) (asNumbers g q) → ⊥

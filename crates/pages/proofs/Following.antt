@@ -7,7 +7,7 @@ use native.Mathlib.Decide.{ℕ-discrete}
 use native.Mathlib.Omega.{arith}
 use mathlib.Core.Path.{_≡_, refl, sym, ap, subst, _∙_}
 use mathlib.Core.Logic.{_≢_, ⊎-elim}
-use mathlib.Core.Bool.{Bool, true, false}
+use mathlib.Core.Bool.{true, false}
 use mathlib.Core.List.{List}
 use lib.ListN.{getD}
 use lib.Dec.{lit<}
@@ -30,7 +30,7 @@ use Rattle.lookup.specs.declared.Pair.{Pair}
 use Rattle.lookup.specs.Rule.{PairIs}
 use Rattle.pages.specs.declared.next.Split.{Split}
 use Rattle.pages.specs.declared.next.Next.{Next}
-use Rattle.pages.specs.Step.{Skipped, Found, FoundOr, SplitIs, LastBy, Followed, firstBy, NextIs}
+use Rattle.pages.specs.Step.{Skipped, Found, SplitIs, LastBy, Followed, firstBy, NextIs}
 
 -- ---- splits passed
 module _ (t : List ℕ) (N B C i k from : ℕ) where
@@ -39,14 +39,6 @@ module _ (t : List ℕ) (N B C i k from : ℕ) where
 
   pub skipped-on : (to : ℕ) → Skipped t N B C i k from to → splitAdds t N B C i k to ≡ 0 → Skipped t N B C i k from (to + 1)
   skipped-on to s z = record { nothing = λ j a b. elim (ℕ-discrete j to) [ yes e ↦ rw e z | no e ↦ s .nothing j a (omega arith) ] }
-
-  found-yes : (b : Bool) (j : ℕ) → FoundOr t N B C i k from b j → b ≡ true → Found t N B C i k from j
-  found-yes true j h e = h
-  found-yes false j h e = absurd (let z : _≡_ {A = ℕ} 0 1 = cc in omega arith)
-
-  found-no : (b : Bool) (j : ℕ) → FoundOr t N B C i k from b j → b ≡ false → Skipped t N B C i k from k
-  found-no true j h e = absurd (let z : _≡_ {A = ℕ} 0 1 = cc in omega arith)
-  found-no false j h e = h
 
 -- ---- sums that zeros do not change
 between-skip : (i from to : ℕ) (f : ℕ → ℕ) → i < from → from ≤ to → ((j : ℕ) → from ≤ j → j < to → f j ≡ 0) → between i to f ≡ between i from f
@@ -201,7 +193,7 @@ module _ (g : Grammar) (ok : Sound g) (w t : List ℕ) (A i k : ℕ) (r : Ready 
 
         pub walked-on : s .found ≡ false → Walked g w A i k b j (c + 1) (i + 1)
         walked-on e =
-            let z = rw (en, is .left, is .right) at (found-no t N (p .left) (p .right) i k from (s .found) (s .split) d e) in
+            let z = rw (e, en, is .left, is .right) at d in
             record {
               low = omega (arith, v .low);
               high = omega arith;
@@ -214,7 +206,7 @@ module _ (g : Grammar) (ok : Sound g) (w t : List ℕ) (A i k : ℕ) (r : Ready 
         pub walked-found : (n : Next) → s .found ≡ true → n .found ≡ true → leafCount g + c < 65536 → n .plan ≡ firstBy (leafCount g + c) (s .split) (p .left) (p .right)
             → NextIs g w A i k b j n
         walked-found n e f word m =
-            let z = rw (en, is .left, is .right) at (found-yes t N (p .left) (p .right) i k from (s .found) (s .split) d e) in
+            let z = rw (e, en, is .left, is .right) at d in
             record {
               behind = λ q l.
                   let x = rule-gives g ok w t A i k r c h own-symbol from (v .after) (q + 1) (s .split) (last-place g w A i k b j rule symbol after before q l ∙ sym (v .place)) z word in

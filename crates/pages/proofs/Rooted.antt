@@ -126,25 +126,6 @@ module _ (g : Grammar) (w : List ℕ) (A i k : ℕ) where
     text = e ∙ rw (← (n .root), a .text, drop-at _ rest (scriptWords (k - i)) (script-words g w A i k q (a .below)));
   }
 
--- ---- one answer or the other
-module _ (g : Grammar) (w : List ℕ) (p : Pair) (i j k r s x y : ℕ) (rest room room′ : List ℕ) where
-  parts-yes : (b : Bool) → PartsTo g w p i j k r s x y rest room b room′ → b ≡ true → PartsNext g w p i j k r s x y rest room′
-  parts-yes true h e = h
-  parts-yes false h e = absurd (let z : _≡_ {A = ℕ} 0 1 = cc in omega arith)
-
-  parts-no : (b : Bool) → PartsTo g w p i j k r s x y rest room b room′ → b ≡ false → PartsLast g w p i j k x y room room′
-  parts-no true h e = absurd (let z : _≡_ {A = ℕ} 0 1 = cc in omega arith)
-  parts-no false h e = h
-
-module _ (g : Grammar) (w : List ℕ) (A i k q : ℕ) (plan : Plan) where
-  followed-yes : (b : Bool) → Followed g w A i k q b plan → b ≡ true → (q + 1 < count g w A i k) × Planned g w A i k (q + 1) plan
-  followed-yes true h e = h
-  followed-yes false h e = absurd (let z : _≡_ {A = ℕ} 0 1 = cc in omega arith)
-
-  followed-no : (b : Bool) → Followed g w A i k q b plan → b ≡ false → q + 1 ≡ count g w A i k
-  followed-no true h e = absurd (let z : _≡_ {A = ℕ} 0 1 = cc in omega arith)
-  followed-no false h e = h
-
 -- ---- a step by rule b and split j, which the first two words of the room tell
 pub only-one : (g : Grammar) (w : List ℕ) (A i k x : ℕ) (room : List ℕ) → x ≡ held (count g w A i k) → x ≡ 1 → Stepped g w A i k room false room
 only-one g w A i k x room e h = record { from = λ q rest a. (omega (arith, a .below), refl) }
@@ -186,11 +167,11 @@ module _ (g : Grammar) (w : List ℕ) (A i k : ℕ) (n : k ≢ i + 1) (room : Li
         stepped = step .from _ _ _ _ rest (root-parted g w A i k b j q rest room root p is)
 
         pub parts-stepped : m ≡ true → Begins g w A i k (q + 1) rest room₁
-        parts-stepped e = parts-next g w A i k b j q rest room root p is room₁ (parts-yes g w p i j k _ _ _ _ rest room room₁ m stepped e)
+        parts-stepped e = parts-next g w A i k b j q rest room root p is room₁ (rw e at stepped)
 
         module _ (e : m ≡ false) where
           over : PartsLast g w p i j k (root .x) (root .y) room room₁
-          over = parts-no g w p i j k _ _ _ _ rest room room₁ m stepped e
+          over = rw e at stepped
 
           pub parts-kept : room₁ ≡ room
           parts-kept = over .kept
@@ -201,12 +182,12 @@ module _ (g : Grammar) (w : List ℕ) (A i k : ℕ) (n : k ≢ i + 1) (room : Li
             followed = follows .behind q (parts-last g w A i k b j q rest room root p is room₁ over)
 
             pub no-more : next .found ≡ false → (q + 1 ≡ count g w A i k) × (room₁ ≡ room)
-            no-more f = (followed-no g w A i k q (next .plan) (next .found) followed f, over .kept)
+            no-more f = (rw f at followed, over .kept)
 
             pub plan-ok : next .found ≡ true → PlanOk g w i k (next .plan)
-            plan-ok f = followed-yes g w A i k q (next .plan) (next .found) followed f .1 .parts
+            plan-ok f = (rw f at followed) .1 .parts
 
             pub plan-written : next .found ≡ true → (room₂ : List ℕ) → room₂ ≡ script (planTree g w i k (next .plan)) ++ drop (scriptWords (k - i)) room₁ → Begins g w A i k (q + 1) rest room₂
             plan-written f room₂ h =
-                let y = followed-yes g w A i k q (next .plan) (next .found) followed f in
+                let y = rw f at followed in
                 plan-begins g w A i k q rest room (next .plan) room₂ a (y .0) (y .1) (rw (over .kept) at h)

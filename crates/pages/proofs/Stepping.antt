@@ -28,20 +28,11 @@ back-all a l p q y e n =
 pub tail-all : (a : ℕ) (l p q : List ℕ) → l ≡ p ++ q → length p ≡ a → tail a l ≡ q
 tail-all a l p q e n = tail-is a l ∙ rw e (drop-at p q a n)
 
--- ---- one answer or the other
 module _ (g : Grammar) (w : List ℕ) (A i k q : ℕ) (rest room room′ : List ℕ) where
-  steps-yes : (b : Bool) → StepsTo g w A i k q rest room b room′ → b ≡ true → Begins g w A i k (q + 1) rest room′
-  steps-yes true h e = h
-  steps-yes false h e = absurd (let z : _≡_ {A = ℕ} 0 1 = cc in omega arith)
-
   -- where q is not the last
   pub steps-on : (b : Bool) → StepsTo g w A i k q rest room b room′ → q + 1 < count g w A i k → Begins g w A i k (q + 1) rest room′
   steps-on true h l = h
   steps-on false h l = absurd (omega (arith, h .0))
-
-  steps-no : (b : Bool) → StepsTo g w A i k q rest room b room′ → b ≡ false → (q + 1 ≡ count g w A i k) × (room′ ≡ room)
-  steps-no true h e = absurd (let z : _≡_ {A = ℕ} 0 1 = cc in omega arith)
-  steps-no false h e = h
 
 -- ---- the two parts of a node
 module _ (g : Grammar) (w : List ℕ) (p : Pair) (i j k : ℕ) (after : i < j) (before : j < k) (r s : ℕ) (rest : List ℕ) where
@@ -78,7 +69,7 @@ module _ (g : Grammar) (w : List ℕ) (p : Pair) (i j k : ℕ) (after : i < j) (
     module _ (b : Bool) (v : List ℕ) (step : Stepped g w (p .right) j k (tail mid room) b v) where
       pub right-next : b ≡ true → PartsNext g w p i j k r s x y rest (back mid room v)
       right-next e =
-          let n = steps-yes g w (p .right) j k y rest (tail mid room) v b (step .from y rest right-begins) e in
+          let n = rw e at (step .from y rest right-begins) in
           record {
             x′ = x;
             y′ = y + 1;
@@ -92,7 +83,7 @@ module _ (g : Grammar) (w : List ℕ) (p : Pair) (i j k : ℕ) (after : i < j) (
 
       right-last : b ≡ false → (y + 1 ≡ count g w (p .right) j k) × (back mid room v ≡ room)
       right-last e =
-          let n = steps-no g w (p .right) j k y rest (tail mid room) v b (step .from y rest right-begins) e in
+          let n = rw e at (step .from y rest right-begins) in
           (n .0, back-all mid room ((r ∷ s ∷ []) ++ left x) (right y ++ rest) v (a .text) to-mid ∙ rw (n .1, right-tail) (sym (a .text)))
 
       pub right-kept : b ≡ false → Parted g w p i j k r s x y rest (back mid room v)
@@ -112,7 +103,7 @@ module _ (g : Grammar) (w : List ℕ) (p : Pair) (i j k : ℕ) (after : i < j) (
     module _ (b : Bool) (z : List ℕ) (step : Stepped g w (p .left) i j (tail 2 room) b z) where
       left-next : b ≡ true → Parted g w p i j k r s (x + 1) y rest (back 2 room z)
       left-next e =
-          let n = steps-yes g w (p .left) i j x (right y ++ rest) (tail 2 room) z b (step .from x (right y ++ rest) left-begins) e in
+          let n = rw e at (step .from x (right y ++ rest) left-begins) in
           record {
             left = n .below;
             right = a .right;
@@ -121,7 +112,7 @@ module _ (g : Grammar) (w : List ℕ) (p : Pair) (i j k : ℕ) (after : i < j) (
 
       left-last : b ≡ false → (x + 1 ≡ count g w (p .left) i j) × (back 2 room z ≡ room)
       left-last e =
-          let n = steps-no g w (p .left) i j x (right y ++ rest) (tail 2 room) z b (step .from x (right y ++ rest) left-begins) e in
+          let n = rw e at (step .from x (right y ++ rest) left-begins) in
           (n .0, back-all 2 room (r ∷ s ∷ []) (left x ++ (right y ++ rest)) z (a .text) refl ∙ rw (n .1, left-tail) (sym (a .text)))
 
   -- the right part had no next one

@@ -30,7 +30,7 @@ use Rattle.table.proofs.Held.{exact, below, held-between}
 use Rattle.table.proofs.Cells.{leaf-adds, leaf-other, leaf-skips, pair-adds, pair-other}
 use Rattle.table.proofs.Adds.{leaf-counted, Ready, split-counted, pairs-counted, all-counted}
 use Rattle.unrank.specs.declared.choose.Choice.{Choice}
-use Rattle.unrank.specs.Choice.{InSplit, Falls, Chosen, ChosenLeaf, Planned}
+use Rattle.unrank.specs.Choice.{InSplit, Chosen, ChosenLeaf, Planned}
 
 -- ---- over one event
 pub leaf-chosen : (g : Grammar) (w : List ℕ) (A i n r : ℕ) → i < length w → ChosenLeaf g (getD w i 0) A n r → getD (derivations g w A i (i + 1)) n none ≡ leaf r (i + 1)
@@ -120,14 +120,6 @@ module _ (g : Grammar) (ok : Sound g) (w t : List ℕ) (A i k n : ℕ) (r : Read
           }
 
 -- ---- one turn of the loops that choose
-pub split-yes : (t : List ℕ) (N B C i k n : ℕ) (b : Bool) (j m : ℕ) → Falls t N B C i k n b j m → b ≡ true → InSplit t N B C i k n j m
-split-yes t N B C i k n true j m h e = h
-split-yes t N B C i k n false j m h e = absurd (let z : _≡_ {A = ℕ} 0 1 = cc in omega arith)
-
-pub split-no : (t : List ℕ) (N B C i k n : ℕ) (b : Bool) (j m : ℕ) → Falls t N B C i k n b j m → b ≡ false → n ≡ between i k (splitAdds t N B C i k) + m
-split-no t N B C i k n true j m h e = absurd (let z : _≡_ {A = ℕ} 0 1 = cc in omega arith)
-split-no t N B C i k n false j m h e = h
-
 module _ (g : Grammar) (t : List ℕ) (A i k n q rest : ℕ) (h : n ≡ sum q (pairAdds g t i k A) + rest) (N : ℕ) (v : Pair) (en : N ≡ g .symbols) (p : PairIs g q v) where
   pub rule-past : (d : ℕ) → v .symbol ≡ A → rest ≡ between i k (splitAdds t N (v .left) (v .right) i k) + d → n ≡ sum (q + 1) (pairAdds g t i k A) + d
   rule-past d e l =

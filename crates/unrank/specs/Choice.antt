@@ -3,13 +3,11 @@
 -- Assumes nothing.
 use mathlib.Core.Path.{_≡_}
 use mathlib.Core.Bool.{Bool, true, false}
-use mathlib.Core.List.{List, [], _∷_}
+use mathlib.Core.List.{List}
 use Prim.Native.Nat.{ℕ, _+_, _≤_, _<_}
 use lib.ListN.{getD}
-use Rattle.bits.specs.Truth.{Every}
 use Rattle.bits.specs.Sum.{sum, between}
-use Rattle.derivation.specs.Order.{Before}
-use Rattle.derivation.specs.Grammar.{Grammar, leafCount, pairCount, eventRule, pairRule}
+use Rattle.derivation.specs.Grammar.{Grammar, leafCount, pairCount, ruleCount, eventRule, pairRule, ruleSymbol}
 use Rattle.derivation.specs.Tree.{Tree, node}
 use Rattle.derivation.specs.Derivations.{derivations, count}
 use Rattle.derivation.specs.Numbering.{none}
@@ -19,19 +17,17 @@ use Rattle.unrank.specs.declared.choose.Pick.{Pick}
 use Rattle.unrank.specs.declared.choose.Choice.{Choice}
 use Rattle.unrank.specs.declared.choose.Plan.{Plan}
 
--- event rule r stands before one that turns A into x
-abbrev pub Precedes : Grammar → (A x r : ℕ) → Type 0
-Precedes g A x r = Before (eventRule g r .symbol ∷ eventRule g r .event ∷ []) (A ∷ x ∷ [])
+-- the rules from `from` up to `to` are of one kind, so that their symbols rise
+pub record OneKind (g : Grammar) (from to : ℕ) : Type 0 where
+  pub some : from ≤ to
+  pub known : to ≤ ruleCount g
+  pub rising : (r q : ℕ) → from ≤ r → r < q → q < to → ruleSymbol g r ≤ ruleSymbol g q
 
--- so do all event rules before r
-pub record LeavesPassed (g : Grammar) (A x r : ℕ) : Type 0 where
-  pub known : r ≤ leafCount g
-  pub before : Every r (Precedes g A x)
-
--- the pair rules before b have lesser symbols than A
-pub record PairsPassed (g : Grammar) (A b : ℕ) : Type 0 where
-  pub known : b ≤ pairCount g
-  pub before : Every b (λ c. pairRule g c .symbol < A)
+-- those of them before rule r have lesser symbols than A
+pub record Passed (g : Grammar) (A from to r : ℕ) : Type 0 where
+  pub low : from ≤ r
+  pub high : r ≤ to
+  pub before : (c : ℕ) → from ≤ c → c < r → ruleSymbol g c < A
 
 -- place n of what the splits add, in order, is place m of the split j's share
 pub record InSplit (t : List ℕ) (N B C i k n j m : ℕ) : Type 0 where

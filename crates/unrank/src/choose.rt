@@ -1,6 +1,5 @@
 // In whose share a number falls: the rules in their order, and for a pair rule its splits in theirs.
-use super::begin::first_leaf;
-use super::begin::first_pair;
+use super::begin::first_rule;
 ghost use Prim.Native.Nat.{_+_, _≤_, _<_};
 ghost use lib.ListN.{length};
 ghost use Rattle.bits.specs.Sum.{sum};
@@ -66,7 +65,7 @@ fn choose_pair(image: &[u8], table: &[u32], symbol: usize, i: usize, k: usize, r
     let symbols = layout::symbol_count(image);
     let leaves = layout::leaf_count(image);
     let pairs = layout::pair_count(image);
-    let first = first_pair(image, symbol);
+    let first = first_rule(image, leaves, leaves + pairs, symbol) - leaves;
     let mut rest = rank;
     for b in first..pairs {
         let p = lookup::pair_of(image, leaves, b);
@@ -96,7 +95,7 @@ pub fn choose_leaf(image: &[u8], event: usize, symbol: usize, rank: u32) -> usiz
     ensures { λ r. ⌜ ChosenLeaf (decode (now (image .entry))) event symbol rank r × (r < 65536) ⌝ }
 {
     let leaves = layout::leaf_count(image);
-    let first = first_leaf(image, symbol, event);
+    let first = first_rule(image, 0, leaves, symbol);
     let mut rest = rank;
     for r in first..leaves {
         if lookup::turns(image, r, symbol, event) {

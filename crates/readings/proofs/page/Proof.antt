@@ -93,13 +93,9 @@ write-page-requires c κs =
     let e = c .before .before .before in
     let n = e .before in
     let f = n .before .before .before .before .before in
-    let o = ok (f .before .before) in (
-      o .count .image,
-      (
-        counts-in _ _ _ _ (o .count .fits) (f .fill-table .ensures),
-        page-fits _ _ _ _ _ _ _ (n .before .total-in .ensures) (left e .0) (left e .1) (c .before .before .page-size .ensures) (o .count .few) (o .fits),
-      ),
-    )
+    let o = ok (f .before .before) in
+    let p = page-fits _ _ _ _ _ _ _ (n .before .total-in .ensures) (left e .0) (left e .1) (c .before .before .page-size .ensures) (o .count .few) (o .fits) in
+    (o .count .image, (counts-in _ _ _ _ (o .count .fits) (f .fill-table .ensures), (p .0, (omega (arith, p .1 .0), omega (arith, p .1 .1)))))
 
 same-length-2 : tie.Need-same-length-2
 same-length-2 c = search needs

@@ -9,7 +9,7 @@ use Rattle.derivation.specs.Grammar.{leafCount}
 use Rattle.layout.specs.Layout.{decode}
 use Rattle.table.specs.Fill.{leafAdds}
 use Rattle.unrank.proofs.Plans.{leaf-past, leaf-skip, leaf-found}
-use Rattle.unrank.proofs.Begins.{leaves-nothing, choose-from}
+use Rattle.unrank.proofs.Begins.{event-rules, leaves-nothing, choose-from}
 use borrow.Author.Needs.{needs}
 use Rattle.unrank.proofs.choose.choose_leaf.Statement.{statement}
 use Rattle.unrank.proofs.choose.choose_leaf.Tie as tie
@@ -23,13 +23,13 @@ abbrev μ-loop : tie.MeasureT-loop
 leaf-count-requires : tie.Need-leaf-count-requires Inv-loop μ-loop
 leaf-count-requires c κs = search needs
 
-first-leaf-requires : tie.Need-first-leaf-requires Inv-loop μ-loop
-first-leaf-requires c κs = search needs
+first-rule-requires : tie.Need-first-rule-requires Inv-loop μ-loop
+first-rule-requires c κs = let p = c .before .before .pre .0 in (p, rw (c .leaf-count .ensures .0) (event-rules _ (p .sound)))
 
 loop-holds : tie.Need-loop-holds Inv-loop μ-loop
 loop-holds c =
-    let p = c .first-leaf .ensures in
-    (omega (arith, p .known, c .before .leaf-count .ensures .0), choose-from _ _ _ (leaves-nothing _ _ _ _ p))
+    let p = rw (c .before .leaf-count .ensures .0) at (c .first-rule .ensures) in
+    (omega (arith, p .high, c .before .leaf-count .ensures .0), choose-from _ _ _ (leaves-nothing _ _ _ _ p))
 
 turns-requires : tie.Need-turns-requires Inv-loop μ-loop
 turns-requires c κs = search needs
@@ -74,7 +74,7 @@ choose-leaf-spec =
     Inv-loop
     μ-loop
     leaf-count-requires
-    first-leaf-requires
+    first-rule-requires
     loop-holds
     turns-requires
     returns

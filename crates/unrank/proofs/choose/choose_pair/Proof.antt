@@ -8,8 +8,8 @@ use Rattle.bits.specs.Sum.{sum}
 use Rattle.derivation.specs.Grammar.{pairCount}
 use Rattle.layout.specs.Layout.{decode}
 use Rattle.table.specs.Fill.{pairAdds}
-use Rattle.unrank.proofs.Plans.{split-yes, split-no, rule-past, rule-skip, rule-found}
-use Rattle.unrank.proofs.Begins.{pairs-nothing, choose-from}
+use Rattle.unrank.proofs.Plans.{rule-past, rule-skip, rule-found}
+use Rattle.unrank.proofs.Begins.{pair-rules, pairs-nothing, choose-from}
 use borrow.Author.Needs.{needs}
 use Rattle.unrank.proofs.choose.choose_pair.Statement.{statement}
 use Rattle.unrank.proofs.choose.choose_pair.Tie as tie
@@ -29,16 +29,26 @@ leaf-count-requires c κs = search needs
 pair-count-requires : tie.Need-pair-count-requires Inv-loop μ-loop
 pair-count-requires c κs = search needs
 
-first-pair-requires : tie.Need-first-pair-requires Inv-loop μ-loop
-first-pair-requires c κs = search needs
+add-first-rule : tie.Need-add-first-rule Inv-loop μ-loop
+add-first-rule c = search needs
+
+first-rule-requires : tie.Need-first-rule-requires Inv-loop μ-loop
+first-rule-requires c κs =
+    let p = c .before .before .before .before .before .pre .0 in
+    (p, rw (c .before .leaf-count .ensures .0, c .pair-count .ensures .0) (pair-rules _ (p .sound)))
+
+sub-first : tie.Need-sub-first Inv-loop μ-loop
+sub-first c = omega (arith, c .first-rule .ensures .low)
 
 loop-holds : tie.Need-loop-holds Inv-loop μ-loop
 loop-holds c =
-    let p = c .first-pair .ensures in
-    (omega (arith, p .known, c .before .pair-count .ensures .0), choose-from _ _ _ (pairs-nothing _ _ _ _ _ _ p))
+    let s = c .before .before .before .before .before .before in
+    let p = rw (c .before .before .leaf-count .ensures .0, c .before .pair-count .ensures .0) at (c .first-rule .ensures) in
+    let n = c .before .before .leaf-count .ensures .0 in
+    (omega (arith, p .high, n, c .before .pair-count .ensures .0), choose-from _ _ _ (rw n (pairs-nothing _ _ (s .pre .0 .sound) _ _ _ _ p)))
 
 pair-of-requires : tie.Need-pair-of-requires Inv-loop μ-loop
-pair-of-requires c κs = search needs
+pair-of-requires c κs = (c .before .before .before .before .before .before .before .before .pre .0, (c .before .before .before .before .leaf-count .ensures .0, omega (arith, c .loop-test .taken, c .before .before .before .pair-count .ensures .0)))
 
 pick-split-requires : tie.Need-pick-split-requires Inv-loop μ-loop
 pick-split-requires c κs =
@@ -51,7 +61,7 @@ returns : tie.Need-returns Inv-loop μ-loop
 returns c =
     rule-found _ _ _ _ _ _ _ _ (c .before .before .before .before .before .before .loop .inv .1) _ _ (c .before .before .before .before .before .before .before .before .before .before .symbol-count .ensures .0) (c .before .before .before .before .pair-of .ensures) _ _
     (omega (arith, c .before .before .before .before .before .before .before .before .pair-count .ensures .0, c .before .before .before .before .before .loop-test .taken)) (c .before .before .if1 .taken)
-    (split-yes _ _ _ _ _ _ _ _ _ _ (c .before .pick-split .ensures) (c .if2 .taken))
+    (rw (c .if2 .taken) at (c .before .pick-split .ensures))
 
 add-b : tie.Need-add-b Inv-loop μ-loop
 add-b c = search needs
@@ -66,7 +76,7 @@ loop-again c =
     let n = c .before .before .before .before .before .before .before .before .symbol-count .ensures .0 in
     let a = c .before .before .pair-of .ensures in
     ⊎-elim
-    (λ w. (omega (arith, lt), rw (w .3) (rule-past _ _ _ _ _ _ _ _ (v .1) _ _ n a _ (w .0 .taken) (split-no _ _ _ _ _ _ _ _ _ _ (w .1 .ensures) (w .2 .left)))))
+    (λ w. (omega (arith, lt), rw (w .3) (rule-past _ _ _ _ _ _ _ _ (v .1) _ _ n a _ (w .0 .taken) (rw (w .2 .left) at (w .1 .ensures)))))
     (λ w. (omega (arith, lt), rw (w .1) (rule-skip _ _ _ _ _ _ _ _ (v .1) _ _ n a (w .0 .left))))
     (c .if1 .came)
 
@@ -85,7 +95,9 @@ choose-pair-spec =
     symbol-count-requires
     leaf-count-requires
     pair-count-requires
-    first-pair-requires
+    add-first-rule
+    first-rule-requires
+    sub-first
     loop-holds
     pair-of-requires
     pick-split-requires
