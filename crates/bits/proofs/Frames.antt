@@ -1,13 +1,24 @@
 -- Words in a row, stored one by one: the others stay, and those that were made 0 are 0.
 -- Assumes nothing.
-use mathlib.Core.Path.{refl, _∙_}
+use mathlib.Core.Path.{_≡_, refl, _∙_}
+use mathlib.Core.Logic.{⊎-elim}
 use mathlib.Core.List.{List}
-use Prim.Native.Nat.{ℕ, _+_, _<_}
+use Prim.Native.Nat.{ℕ, _+_, _-_, _≤_, _<_}
 use native.Mathlib.Decide.{ℕ-discrete}
 use native.Mathlib.Omega.{arith}
-use lib.ListN.{length, set, length-set}
+use lib.ListN.{length, getD, set, length-set}
 use lib.Seq.{getD-set-same, getD-set-other}
 use Rattle.bits.specs.Frame.{Framed, Zeros}
+use Rattle.bits.proofs.Truths.{lt-or-ge}
+
+-- words that agree before a row, in it and behind it all agree
+pub around : (c d : List ℕ) (base n : ℕ) → ((y : ℕ) → y < base → getD c y 0 ≡ getD d y 0)
+    → ((x : ℕ) → x < n → getD c (base + x) 0 ≡ getD d (base + x) 0) → ((y : ℕ) → base + n ≤ y → getD c y 0 ≡ getD d y 0)
+    → (y : ℕ) → getD c y 0 ≡ getD d y 0
+around c d base n before inside behind y = ⊎-elim (before y)
+    (λ (l : base ≤ y). ⊎-elim (λ (o : y < base + n).
+    let z : base + (y - base) ≡ y = omega arith in rw z at (inside (y - base) (omega arith))) (behind y) (lt-or-ge y (base + n)))
+    (lt-or-ge y base)
 
 pub framed-none : (l : List ℕ) (b n : ℕ) → Framed l l b n
 framed-none l b n = record { long = refl; before = λ x h. refl; after = λ x h. refl }
@@ -18,6 +29,9 @@ framed-set old l b n A v f h = record {
   before = λ x p. getD-set-other l (b + A) x v 0 (λ e. omega arith) ∙ f .before x p;
   after = λ x p. getD-set-other l (b + A) x v 0 (λ e. omega arith) ∙ f .after x p;
 }
+
+pub framed-wider : (a b : List ℕ) (base n m : ℕ) → n ≤ m → Framed a b base n → Framed a b base m
+framed-wider a b base n m l f = record { long = f .long; before = f .before; after = λ x h. f .after x (omega arith) }
 
 pub framed-on : (a b c : List ℕ) (base n : ℕ) → Framed a b base n → Framed b c base n → Framed a c base n
 framed-on a b c base n f h = record { long = h .long ∙ f .long; before = λ x p. h .before x p ∙ f .before x p; after = λ x p. h .after x p ∙ f .after x p }

@@ -1,4 +1,4 @@
--- Cells and columns of the filler: one split more, what a cell depends on, a column from its last cell down, columns one after the other.
+-- Cells and columns of the filler: what a cell depends on, a column from its last cell down, columns one after the other.
 -- Assumes nothing.
 use mathlib.Core.Path.{_≡_, refl, sym, ap, ap₂, _∙_, subst}
 use mathlib.Core.Logic.{⊎-elim}
@@ -9,15 +9,14 @@ use native.Mathlib.Numerals.{add-one}
 use native.Mathlib.Omega.{arith}
 use lib.ListN.{length, getD, set, length-set}
 use lib.Seq.{getD-set-same, getD-set-other}
-use Rattle.bits.specs.Sum.{sum, between}
+use Rattle.bits.specs.Sum.{sum}
 use Rattle.bits.specs.Bit.{bit}
-use Rattle.bits.proofs.Sums.{sum-cong, sum-front, sum-more, between-none, between-cong, between-more, some-join}
-use Rattle.bits.proofs.Bits.{bit-of-zero}
+use Rattle.bits.proofs.Sums.{sum-cong, sum-front, sum-more, between-cong}
 use Rattle.derivation.specs.Grammar.{Grammar}
 use Rattle.derivation.specs.Chart.{column, cellAt, eventFirings}
 use Rattle.derivation.proofs.Columns.{column-mono, cells-column, cells-more}
 use Rattle.kernel.specs.declared.Fired.{Fired}
-use Rattle.kernel.specs.Fire.{hits, conclusions, leafConclusions, Concluded, LeafFired}
+use Rattle.kernel.specs.Fire.{hits, conclusions, leafConclusions, LeafFired}
 use Rattle.chart.specs.Fill.{rd, cellHits, cellConclusions, CellIs, CellFilled, Column, columnHits, ColumnFilled, Columns, onesTo}
 
 -- ---- one word more
@@ -26,27 +25,6 @@ unfolding onesTo
 ones-more c n = sum-more n _
 
 module _ (g : Grammar) where
-  -- ---- a cell after the splits before j
-  pub record Splits (c : List ℕ) (i k : ℕ) (f : Fired) (j : ℕ) : Type 0 where
-    pub word : (A : ℕ) → bit (f .word) A ≡ min 1 (between i j (λ x. conclusions g (rd c i x) (rd c x k) A))
-    pub count : f .count ≡ between i j (λ x. hits g (rd c i x) (rd c x k))
-
-  pub splits-start : (c : List ℕ) (i k : ℕ) (f : Fired) → f .word ≡ 0 → f .count ≡ 0 → Splits c i k f (i + 1)
-  splits-start c i k f z e = record {
-    word = λ A. ap (λ (x : ℕ). bit x A) z ∙ bit-of-zero A ∙ ap (min 1) (sym (between-none i (i + 1) _ (omega arith)));
-    count = e ∙ sym (between-none i (i + 1) _ (omega arith));
-  }
-
-  pub splits-step : (c : List ℕ) (i k j : ℕ) (f h : Fired) → i < j → Splits c i k f j → Concluded g (rd c i j) (rd c j k) f h → Splits c i k h (j + 1)
-  splits-step c i k j f h l w o = record {
-    word = λ A. o .word A ∙ some-join _ _ _ (w .word A) ∙ ap (min 1) (sym (between-more i j _ l));
-    count = o .count ∙ ap₂ _+_ (w .count) refl ∙ sym (between-more i j _ l);
-  }
-
-  pub splits-done : (c : List ℕ) (i k : ℕ) (f : Fired) → Splits c i k f k → CellIs g c i k f
-  unfolding cellHits cellConclusions
-  splits-done c i k f w = record { word = w .word; count = w .count }
-
   -- the word is stored
   pub cell-stored : (c : List ℕ) (i k at : ℕ) (f : Fired) → at ≡ cellAt i k → at < length c → CellIs g c i k f
       → CellFilled g i k c (set c at (f .word)) (f .count)
@@ -153,7 +131,7 @@ module _ (g : Grammar) where
           ∙ ap (min 1) (conclusions-stay c d i (q + 1) (λ y b. agree y (omega arith)) (λ y a b. agree y b) A);
     }
 
-    columnHits-stays : columnHits g e c q ≡ columnHits g e d q
+    pub columnHits-stays : columnHits g e c q ≡ columnHits g e d q
     unfolding columnHits
     columnHits-stays = ap (λ (x : ℕ). eventFirings g e + x)
         (sum-cong q _ _ (λ i h. hits-stay c d i (q + 1) (λ y b. agree y (omega arith)) (λ y a b. agree y b)))
@@ -162,6 +140,14 @@ module _ (g : Grammar) where
   pub columns-start : (w c : List ℕ) → Columns g w c c 0 0
   unfolding sum
   columns-start w c = record { column = λ q h. absurd (omega arith); counted = refl; past = λ y h. refl }
+
+  -- of the events only those of the columns count
+  pub columns-along : (w v c₀ c : List ℕ) (n m : ℕ) → ((q : ℕ) → q < n → getD w q 0 ≡ getD v q 0) → Columns g w c₀ c n m → Columns g v c₀ c n m
+  columns-along w v c₀ c n m same r = record {
+    column = λ q h. subst (λ (e : ℕ). Column g e c q) (same q h) (r .column q h);
+    counted = r .counted ∙ sum-cong n _ _ (λ q h. ap (λ (e : ℕ). columnHits g e c q) (same q h));
+    past = r .past;
+  }
 
   module _ (w c₀ c d : List ℕ) (n m x : ℕ) (r : Columns g w c₀ c n m) (f : ColumnFilled g (getD w n 0) c d n x) where
     agrees : (q : ℕ) → q < n → (y : ℕ) → y < column (q + 1) + (q + 1) → getD c y 0 ≡ getD d y 0

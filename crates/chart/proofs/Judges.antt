@@ -89,14 +89,14 @@ module _ (g : Grammar) (w c d : List ℕ) (p : Shows g w c) (q : Shows g w d) wh
   cell-only i k h l =
       same-bits _ _ (λ A. tells-only g w A i k _ (p .at A i k h l) ∙ sym (tells-only g w A i k _ (q .at A i k h l)))
 
-  shows-only : (y : ℕ) → y < cells (length w) → getD c y 0 ≡ getD d y 0
+  pub shows-only : (y : ℕ) → y < cells (length w) → getD c y 0 ≡ getD d y 0
   shows-only y h = let e = cell-of (length w) y h in rw (e .is) (cell-only (e .i) (e .k) (e .lt) (e .le))
 
 judged-eq : (r s : Judged) → r .number ≡ s .number → r .rule ≡ s .rule → r .admitted ≡ s .admitted → r .items ≡ s .items → r .firings ≡ s .firings → r ≡ s
 judged-eq r s a m b c d = λ i. record { number = a i; rule = m i; admitted = b i; items = c i; firings = d i }
 
 module _ (b w c₀ : List ℕ) (r s : Judged) (c d : List ℕ) where
-  chart-only : Answered (decode b) w c₀ r c → Answered (decode b) w c₀ s d → c ≡ d
+  pub chart-only : Answered (decode b) w c₀ r c → Answered (decode b) w c₀ s d → c ≡ d
   chart-only p q = ext-getD 0 c d (p .long ∙ sym (q .long)) (λ y l. go y (decLe (cells (length w)) y))
     where
       go : (y : ℕ) → Dec (cells (length w) ≤ y) → getD c y 0 ≡ getD d y 0

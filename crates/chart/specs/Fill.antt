@@ -5,11 +5,12 @@ use mathlib.Core.Path.{_≡_}
 use mathlib.Core.Logic.{_≢_}
 use mathlib.Core.Bool.{Bool}
 use mathlib.Core.List.{List}
-use Prim.Native.Nat.{ℕ, _+_, _≤_, _<_, min}
+use Prim.Native.Nat.{ℕ, _+_, _≤_, _<_, min, max}
 use lib.ListN.{length, getD}
 use Rattle.bits.specs.Truth.{Decides}
 use Rattle.bits.specs.Sum.{sum, between}
 use Rattle.bits.specs.Bit.{bit}
+use Rattle.bits.specs.Frame.{Framed}
 use Rattle.derivation.specs.Grammar.{Grammar}
 use Rattle.derivation.specs.Chart.{cellAt, cells, eventFirings}
 use Rattle.kernel.specs.Fire.{hits, conclusions, leafConclusions}
@@ -41,6 +42,17 @@ pub record CellFilled (g : Grammar) (i k : ℕ) (before after : List ℕ) (n : �
   pub long : length after ≡ length before
   pub other : (y : ℕ) → y ≢ cellAt i k → getD after y 0 ≡ getD before y 0
   pub cell : CellIs g before i k (record { word = rd after i k; count = n })
+
+-- the symbols of the first m cells that end at j are all in u
+pub record Standing (c : List ℕ) (j m u : ℕ) : Type 0 where
+  pub among : (i : ℕ) → i < m → (A : ℕ) → bit (rd c i j) A ≤ bit u A
+
+-- split j of the cells that end at k is pushed into the first m of them: what the rules conclude over the words of (i, j) and (j, k) stands in the
+-- word of (i, k) too, and n is how often they match; no other word changed
+pub record Pushed (g : Grammar) (j k : ℕ) (before after : List ℕ) (m n : ℕ) : Type 0 where
+  pub frame : Framed before after (cellAt 0 k) m
+  pub cell : (i : ℕ) → i < m → (A : ℕ) → bit (rd after i k) A ≡ max (bit (rd before i k) A) (min 1 (conclusions g (rd before i j) (rd before j k) A))
+  pub counted : n ≡ sum m (λ i. hits g (rd before i j) (rd before j k))
 
 -- ---- columns: column q is cells (0, q + 1) to (q, q + 1)
 -- the cell of one event comes from the event rules, the others from the rest of the chart

@@ -1,5 +1,5 @@
 // Judges a record: fills the chart of a grammar image over events, column by column, and answers verdict, items and firings.
-mod fill; // cells and columns
+pub mod fill; // cells and columns
 
 ghost use mathlib.Core.Path.{_≡_};
 ghost use mathlib.Core.Bool.{false};
@@ -45,7 +45,7 @@ fn items_of(chart: &[u64], n: usize) -> u64
 }
 
 // Whether the start symbol stands in the cell of the whole record; where that is empty, whether the grammar admits it.
-fn top_has(image: &[u8], chart: &[u64], n: usize) -> bool
+pub fn top_has(image: &[u8], chart: &[u64], n: usize) -> bool
     requires { ⌜ (headerBytes ≤ length (now image)) × (n < 65536) × (cells n ≤ length (now chart)) ⌝ }
     ensures { λ ok. ⌜ TopHas (decode (now (image .entry))) (now (chart .entry)) n ok ⌝ }
 {

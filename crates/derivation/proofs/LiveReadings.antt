@@ -5,7 +5,6 @@ use mathlib.Core.Path.{_≡_, sym, _∙_, subst, subst⁻¹}
 use mathlib.Core.Logic.{inl, inr, ⊎-elim}
 use mathlib.Core.List.{List, _++_}
 use Prim.Native.Nat.{ℕ, _+_, _-_, _<_}
-use native.Mathlib.Nat.{add-sub-cancel-left}
 use native.Mathlib.Omega.{arith}
 use lib.ListN.{length}
 use Rattle.bits.specs.Truth.{Every}
@@ -14,7 +13,7 @@ use Rattle.derivation.specs.Sound.{Sound}
 use Rattle.derivation.specs.Tree.{Tree, leaf, node, Derives}
 use Rattle.derivation.specs.Live.{DerivesSome, Reached, start, left, right, Live, Uses, Stands}
 use Rattle.derivation.proofs.Around.{moved}
-use Rattle.derivation.proofs.Sound.{pair-fits}
+use Rattle.derivation.proofs.Sound.{pair-fits-at}
 use Rattle.derivation.proofs.Live.{join, joined, derives-upward, tree-in}
 
 module _ (g : Grammar) where
@@ -50,7 +49,7 @@ module _ (g : Grammar) where
     where
       parts : (b : ℕ) → b < pairCount g → DerivesSome g (pairRule g b .left) × DerivesSome g (pairRule g b .right)
       parts b m =
-          let q = rw add-sub-cancel-left at (pair-fits g s (leafCount g + b) (omega arith) (omega arith)) in
+          let q = pair-fits-at g s b m in
           (f _ (q .left) .derives, f _ (q .right) .derives)
 
   -- ---- and back

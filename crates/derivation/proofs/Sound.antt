@@ -80,6 +80,10 @@ module _ (g : Grammar) (s : Sound g) where
   pub pair-fits : (r : ℕ) → leafCount g ≤ r → r < ruleCount g → PairFits (g .symbols) (pairRule g (r - leafCount g))
   pair-fits r l m = omega (arith, s .fit r m, pair-highest g r l m, pair-symbol g r l m)
 
+  -- of pair rule b, whose number is leafCount g + b
+  pub pair-fits-at : (b : ℕ) → b < pairCount g → PairFits (g .symbols) (pairRule g b)
+  pair-fits-at b h = rw add-sub-cancel-left at (pair-fits (leafCount g + b) (omega arith) (omega arith))
+
   -- what is derived is one of the N symbols
   pub derives-fits : (w : List ℕ) (A i k : ℕ) (t : Tree) → Derives g w A i k t → A < g .symbols
   derives-fits w A i k (leaf r p) d = rw (← (d .symbol)) (leaf-fits r (d .rule))

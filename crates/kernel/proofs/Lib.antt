@@ -4,3 +4,4 @@ pub mod Visits
 pub mod Leaves
 pub mod Pairs
 pub mod Along
+pub mod Readies

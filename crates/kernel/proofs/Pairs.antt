@@ -1,8 +1,8 @@
--- The pair rules over the words u and v of two cells: a visit to all symbols of u adds what the rules conclude, and where v is empty nothing.
+-- The pair rules over the words u and v of two cells: a visit to all symbols of u adds what the rules conclude, and where one is empty nothing.
 -- Assumes nothing.
 use mathlib.Core.Path.{_≡_, refl, sym, ap, ap₂, _∙_}
 use Prim.Native.Nat.{ℕ, _+_, _*_, _≤_, _<_, max, min}
-use native.Mathlib.Nat.{mul-assoc, mul-zero, add-zero, max-zero, le-of-suc-le-suc}
+use native.Mathlib.Nat.{mul-assoc, mul-zero, zero-mul, add-zero, max-zero, le-of-suc-le-suc}
 use native.Mathlib.Omega.{arith}
 use Rattle.bits.specs.Truth.{same}
 use Rattle.bits.specs.Bit.{bit, meet}
@@ -24,18 +24,23 @@ unfolding over
 over-le v R = le-of-suc-le-suc (meet-lt v R)
 
 module _ (g : Grammar) (u v : ℕ) where
-  -- an empty right word: no rule matches
-  none-hit : v ≡ 0 → (b : ℕ) → hit g u v b ≡ 0
+  -- no rule matches
+  module _ (none-hit : (b : ℕ) → hit g u v b ≡ 0) where
+    nothing : (f : Fired) → Concluded g u v f f
+    unfolding conclusions hits
+    nothing f = record {
+      word = λ A. sym (max-zero (bit (f .word) A)) ∙ ap (λ (s : ℕ). max (bit (f .word) A) (min 1 s))
+          (sym (sum-zero (pairCount g) _ (λ b l. ap (λ (x : ℕ). x * same (pairRule g b .symbol) A) (none-hit b) ∙ omega arith)));
+      count = sym (add-zero (f .count)) ∙ ap (λ (s : ℕ). f .count + s) (sym (sum-zero (pairCount g) _ (λ b l. none-hit b)));
+    }
+
+  pub none-left : u ≡ 0 → (f : Fired) → Concluded g u v f f
   unfolding hit
-  none-hit e b = rw e (ap (λ (x : ℕ). bit u (pairRule g b .left) * x) (bit-of-zero (pairRule g b .right)) ∙ mul-zero _)
+  none-left e = nothing (λ b. rw e (ap (λ (x : ℕ). x * bit v (pairRule g b .right)) (bit-of-zero (pairRule g b .left)) ∙ zero-mul _))
 
   pub none-right : v ≡ 0 → (f : Fired) → Concluded g u v f f
-  unfolding conclusions hits
-  none-right e f = record {
-    word = λ A. sym (max-zero (bit (f .word) A)) ∙ ap (λ (s : ℕ). max (bit (f .word) A) (min 1 s))
-        (sym (sum-zero (pairCount g) _ (λ b l. ap (λ (x : ℕ). x * same (pairRule g b .symbol) A) (none-hit e b) ∙ omega arith)));
-    count = sym (add-zero (f .count)) ∙ ap (λ (s : ℕ). f .count + s) (sym (sum-zero (pairCount g) _ (λ b l. none-hit e b)));
-  }
+  unfolding hit
+  none-right e = nothing (λ b. rw e (ap (λ (x : ℕ). bit u (pairRule g b .left) * x) (bit-of-zero (pairRule g b .right)) ∙ mul-zero _))
 
   pub concluded-all : ((b : ℕ) → b < pairCount g → pairRule g b .left < 64) → (was f : Fired) (rest : ℕ) → rest ≡ 0
       → Visit g u (λ s. over v) was f rest → Concluded g u v was f

@@ -3,8 +3,9 @@
 use mathlib.Core.Path.{_≡_}
 use mathlib.Core.List.{List}
 use Prim.Native.Nat.{ℕ, _+_, _*_, min, max}
+use lib.ListN.{length, getD}
 use Rattle.bits.specs.Sum.{sum}
-use Rattle.bits.specs.Bit.{bit, meet}
+use Rattle.bits.specs.Bit.{bit, Has, meet}
 use Rattle.derivation.specs.Grammar.{Grammar, pairCount}
 use Rattle.groups.specs.Group.{byLeft}
 use Rattle.marks.specs.Mark.{meetings}
@@ -29,3 +30,15 @@ over v R = meet v R
 
 unfoldable pub along : List ℕ → (r a : ℕ) → List ℕ → ℕ → ℕ
 along t r a u R = sum 64 (λ c. meetings t r a u c * bit R c)
+
+-- ---- what the rules of the left symbol a add to an empty cell beside the right word v stands in t: the word in word 2 a, the matches in word
+-- 2 a + 1; and so of each symbol of u
+abbrev pub readyWords : ℕ
+readyWords = 128
+
+pub record ReadyAt (g : Grammar) (v a : ℕ) (t : List ℕ) : Type 0 where
+  pub made : Followed g (over v) a (record { word = 0; count = 0 }) (record { word = getD t (2 * a) 0; count = getD t (2 * a + 1) 0 })
+
+pub record Ready (g : Grammar) (v u : ℕ) (t : List ℕ) : Type 0 where
+  pub long : length t ≡ readyWords
+  pub at : (a : ℕ) → Has u a → ReadyAt g v a t

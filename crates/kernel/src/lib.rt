@@ -10,7 +10,7 @@ ghost use Rattle.image.specs.Image.{Accepted};
 ghost use Rattle.kernel.specs.Fire.{Noted, Concluded, Met, LeafFired, Heard};
 ghost use Rattle.groups.specs.Group.{Grouped};
 ghost use Rattle.marks.specs.Mark.{Told, SeenIn};
-ghost use Rattle.kernel.specs.Follow.{Followed, over, along};
+ghost use Rattle.kernel.specs.Follow.{Followed, readyWords, ReadyAt, Ready, over, along};
 
 // A cell's word so far, and the matches counted so far.
 pub struct Fired {
@@ -152,21 +152,51 @@ fn fire_group(image: &[u8], table: &[u64; 768], a: usize, right: u64, into: Fire
     follow(image, table, a, right, into)
 }
 
-// All the pair rules over two words: for each set symbol of the left word, the rules whose left symbol it is.
-pub fn fire_pairs(image: &[u8], table: &[u64; 768], left: u64, right: u64, into: Fired) -> Fired
+// Makes ready what the rules of each wanted left symbol make beside a right word, of symbol a in words 2 a and 2 a + 1: the symbols that they
+// conclude, and how many match. All left parts that meet this right part are fired by it.
+pub fn make_ready(image: &[u8], table: &[u64; 768], wanted: u64, right: u64, made: &mut [u64; 128])
     requires { ⌜ Accepted (now image) ⌝ }
     requires { ⌜ Grouped (decode (now image)) (now table) ⌝ }
+    requires { ⌜ length (now made) ≡ readyWords ⌝ }
+    ensures { λ _. ⌜ Ready (decode (now (image .entry))) right wanted (now (made .exit)) ⌝ }
+{
+    let mut rest = wanted;
+    while rest != 0 {
+        let a = bits::first_bit(rest);
+        let f = fire_group(image, table, a, right, Fired { word: 0, count: 0 });
+        made[2 * a] = f.word;
+        made[2 * a + 1] = f.count;
+        rest = bits::without(rest, a);
+    }
+}
+
+// What the rules of the left symbol a make, into a cell.
+fn take_ready(image: &[u8], made: &[u64; 128], right: u64, a: usize, into: Fired) -> Fired
+    requires { ⌜ Accepted (now image) ⌝ }
+    requires { ⌜ ReadyAt (decode (now image)) right a (now made) ⌝ }
+    requires { ⌜ (a < 64) × (into .count + 256 < 2 ^ 62) ⌝ }
+    ensures { λ f. ⌜ Followed (decode (now (image .entry))) (over right) a into f ⌝ }
+{
+    let word = into.word | made[2 * a];
+    let count = into.count + made[2 * a + 1];
+    Fired { word, count }
+}
+
+// All the pair rules over two words, with what is ready for the right one: for each set symbol of the left word, what its rules make.
+pub fn fire_pairs(image: &[u8], made: &[u64; 128], left: u64, right: u64, into: Fired) -> Fired
+    requires { ⌜ Accepted (now image) ⌝ }
+    requires { ⌜ Ready (decode (now image)) right left (now made) ⌝ }
     requires { ⌜ into .count + 32768 < 2 ^ 62 ⌝ }
     ensures { λ f. ⌜ Concluded (decode (now (image .entry))) left right into f × (f .count ≤ into .count + 256) ⌝ }
 {
-    if right == 0 {
+    if left == 0 {
         return into;
     }
     let mut f = into;
     let mut rest = left;
     while rest != 0 {
         let a = bits::first_bit(rest);
-        f = fire_group(image, table, a, right, f);
+        f = take_ready(image, made, right, a, f);
         rest = bits::without(rest, a);
     }
     f

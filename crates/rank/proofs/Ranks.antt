@@ -18,7 +18,7 @@ use Rattle.derivation.proofs.Counts.{bySplit, byPair, count-of}
 use Rattle.derivation.proofs.Places.{leaf-first, node-at, node-room}
 use Rattle.derivation.proofs.Readings.{count-events, count-quiet, reading-at}
 use Rattle.derivation.proofs.Numbering.{number-of}
-use Rattle.lookup.proofs.Read.{fits}
+use Rattle.derivation.proofs.Sound.{pair-fits-at}
 use Rattle.table.specs.Table.{held}
 use Rattle.table.specs.Fill.{CountsIn}
 use Rattle.table.proofs.Held.{held-mul, held-once, held-plus, held-between}
@@ -56,7 +56,7 @@ module _ (g : Grammar) (o : Sound g) (w : List ℕ) where
         rw symbol
         (held-plus _ _ _ _ (pairs-counted g o w t i k r A b (le-of-lt rule))
         (held-plus _ _ _ _ (held-between i j _ _ (λ z l h. split-counted g o w t i k r A b z rule symbol l (omega arith)))
-        (held-plus _ _ _ _ (rw (eu, c .at C j k (fits g o b rule .right) before inside) (held-mul x (count g w C j k))) (rw ev (held-once y)))))
+        (held-plus _ _ _ _ (rw (eu, c .at C j k (pair-fits-at g o b rule .right) before inside) (held-mul x (count g w C j k))) (rw ev (held-once y)))))
 
     pub node-ranked : (s : List ℕ) → length s ≡ scriptWords (k - i) → leafCount g + b ≡ getD s 0 0 → j ≡ getD s 1 0 → (u v x : ℕ)
         → HeldOf (RankOf g w B i j (left-words (4 * (j - i)) s)) u → HeldOf (RankOf g w C j k (right-words (4 * (j - i)) s)) v

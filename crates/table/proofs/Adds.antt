@@ -14,7 +14,7 @@ use Rattle.derivation.specs.Grammar.{Grammar, leafCount, pairCount, pairRule}
 use Rattle.derivation.specs.Derivations.{count}
 use Rattle.derivation.proofs.Counts.{byEvent, bySplit, byPair, count-one, count-more}
 use Rattle.derivation.specs.Sound.{Sound}
-use Rattle.lookup.proofs.Read.{fits}
+use Rattle.derivation.proofs.Sound.{pair-fits-at}
 use Rattle.table.specs.Table.{held}
 use Rattle.table.specs.Fill.{leafAdds, splitAdds, pairAdds, Right, Done, CountsIn}
 use Rattle.table.proofs.Held.{held-mul, held-once, held-sum, held-between}
@@ -46,7 +46,7 @@ module _ (g : Grammar) (ok : Sound g) (w t : List ℕ) (i k : ℕ) (r : Ready g 
       → held (splitAdds t (g .symbols) (pairRule g q .left) (pairRule g q .right) i k j) ≡ held (bySplit g w A i k q j)
   unfolding splitAdds bySplit
   split-counted A q j h e l m =
-      let f = fits g ok q h in
+      let f = pair-fits-at g ok q h in
       held-once _ ∙ rw (r .first _ j (f .left) l m, r .second _ j (f .right) l m, same-eq (pairRule g q .symbol) A e, mul-one) (held-mul _ _)
 
   pub pair-counted : (A q : ℕ) → q < pairCount g → held (pairAdds g t i k A q) ≡ held (byPair g w A i k q)

@@ -40,7 +40,7 @@ slice-write-chart c = search needs
 mark-cell-requires : tie.Need-mark-cell-requires Inv-loop μ-loop
 mark-cell-requires c κs =
     let p = c .before .before .before .before .before .before .before .before .before .pre in
-    (omega arith, λ there. let m = p .1 .1 .1 .0 there in (m .0 .few, m .1 .room))
+    (omega arith, λ there. let m = p .1 .1 .1 .0 .1 there in (m .0 .few, m .1 .room))
 
 cell-at-requires-2 : tie.Need-cell-at-requires-2 Inv-loop μ-loop
 cell-at-requires-2 c κs = search needs
@@ -67,7 +67,7 @@ returns c =
       column-empty (decode (s .args .image .now)) (s .args .event) (s .args .q) _ (s .args .chart .now) _ (f .result) at (omega (arith, at, s .pre .1 .1 .0 .1)) (f .ensures .0) z (e .0) (e .1),
       omega (arith, f .ensures .1),
       column-shown (decode (s .args .image .now)) (s .args .event) (s .args .q) _ (s .args .chart .now) _ (f .result) at (omega (arith, at, s .pre .1 .1 .0 .1)) (f .ensures .0) z (e .0) (e .1) _ _
-          (shown-stored (s .args .chart .now) _ _ _ _ _ _ _ _ (omega arith) at (omega arith) (c .before .before .before .before .before .before .before .before .before .before .before .mark-cell .ensures) (s .pre .1 .1 .1 .0)),
+          (shown-stored (s .args .chart .now) _ _ _ _ _ _ _ _ (omega arith) at (omega arith) (c .before .before .before .before .before .before .before .before .before .before .before .mark-cell .ensures) (s .pre .1 .1 .1 .0 .1)),
     )
 
 loop-holds : tie.Need-loop-holds Inv-loop μ-loop
@@ -82,7 +82,7 @@ loop-holds c =
       rw (sub-zero (a .q)) (part-start _ _ _ _ (a .chart .now) (f .result) at (omega arith) (f .ensures .0)),
       refl,
       refl,
-      rw (sub-zero (a .q)) (shown-stored (a .chart .now) _ _ _ _ _ _ _ _ (omega arith) at (omega arith) m (s .pre .1 .1 .1 .0)),
+      rw (sub-zero (a .q)) (shown-stored (a .chart .now) _ _ _ _ _ _ _ _ (omega arith) at (omega arith) m (s .pre .1 .1 .1 .0 .1)),
     )
 
 sub-i : tie.Need-sub-i Inv-loop μ-loop
@@ -97,7 +97,7 @@ fill-cell-requires c κs =
     let a = c .before .before .before .before .before .before .before .before .before .before .before .before .before .before .before .before .before .before .before .before .before in
     let h : length (l .chart) ≡ length (a .args .chart .now) = l .inv .2 .long ∙ simp length-set in
     let d : a .args .q - 1 - l .x + 1 ≡ a .args .q - l .x = omega arith in
-    (a .pre .0, (a .pre .1 .0, (omega arith, rw d (l .inv .5))))
+    (a .pre .0, (a .pre .1 .0, (omega arith, (rw (l .inv .3, c .before .before .before .before .before .before .before .before .before .before .before .mark-cell .ensures .long) (a .pre .1 .1 .1 .0 .0), rw d (l .inv .5)))))
 
 add-count : tie.Need-add-count Inv-loop μ-loop
 add-count c = omega (arith, c .before .before .before .before .before .before .fill-cell .ensures .1, c .before .before .before .before .before .before .before .before .before .before .before .loop .inv .1, c .before .before .before .before .before .before .before .before .before .before .loop-test .taken, c .before .before .before .before .before .before .before .before .before .before .before .before .before .before .before .before .before .before .before .before .before .before .before .before .before .before .before .before .pre .1 .1 .0 .0)

@@ -23,7 +23,7 @@ slice-aggregate-fill-columns-2 c = search needs
 
 fill-columns-requires : tie.Need-fill-columns-requires
 fill-columns-requires c κs =
-    let p = c .before .before .before .before .before .before .before .before .before .before .before .pre in
+    let p = c .before .before .before .before .before .before .before .before .before .before .before .before .pre in
     (p .0, (c .before .before .before .before .before .before .before .group-rules .ensures, (p .1, (λ there. (c .before .before .before .before .before .before .pay .ensures (c .before .before .before .before .before .if1 .taken), lefts-start _ _ 12576 (omega arith)), λ there. c .before .before .before .before .events-of .ensures))))
 
 same-length : tie.Need-same-length
@@ -40,7 +40,7 @@ slice-aggregate-fill-columns-4 c = search needs
 
 fill-columns-requires-2 : tie.Need-fill-columns-requires-2
 fill-columns-requires-2 c κs =
-    let p = c .before .before .before .before .before .before .before .before .before .before .pre in
+    let p = c .before .before .before .before .before .before .before .before .before .before .before .pre in
     (p .0, (c .before .before .before .before .before .before .group-rules .ensures, (p .1, (λ there. absurd (omega (arith, there)), λ there. absurd (omega (arith, there))))))
 
 same-length-2 : tie.Need-same-length-2

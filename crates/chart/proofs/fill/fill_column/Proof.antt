@@ -1,10 +1,21 @@
--- The column's own marks start empty.
+-- Without marks nothing is said of them; with marks the column's own start empty.
 -- Assumes nothing.
 use Rattle.marks.proofs.Shows.{rights-start}
 use native.Mathlib.Omega.{arith}
 use borrow.Author.Needs.{needs}
 use Rattle.chart.proofs.fill.fill_column.Statement.{statement}
 use Rattle.chart.proofs.fill.fill_column.Tie as tie
+
+push-cells-requires : tie.Need-push-cells-requires
+push-cells-requires c κs =
+    let p = c .before .before .before .before .before .before .pre in
+    (p .0, (p .1 .0, ((p .1 .1 .0 .0, p .1 .1 .0 .1), p .1 .1 .1)))
+
+same-length : tie.Need-same-length
+same-length c = search needs
+
+returns : tie.Need-returns
+returns c = let f = c .before .before .push-cells .ensures in (f .0, f .1, λ there. absurd (omega (arith, there, c .before .before .before .before .if1 .taken)))
 
 slice-aggregate-fill-cells : tie.Need-slice-aggregate-fill-cells
 slice-aggregate-fill-cells c = search needs
@@ -13,46 +24,26 @@ fill-cells-requires : tie.Need-fill-cells-requires
 fill-cells-requires c κs =
     let p = c .before .before .before .before .before .before .before .before .pre in
     let q = p .1 .1 .0 in
-    (p .0, (p .1 .0, ((q .0, q .1), (λ there. absurd (omega (arith, c .before .before .before .if1 .taken)), p .1 .1 .1))))
-
-same-length : tie.Need-same-length
-same-length c = search needs
+    (p .0, (p .1 .0, ((q .0, q .1), ((omega (arith, c .before .before .before .if1 .left), λ there. (q .2 there, rights-start _ _ _)), p .1 .1 .1))))
 
 same-length-2 : tie.Need-same-length-2
 same-length-2 c = search needs
 
-returns : tie.Need-returns
-returns c = search needs
-
-slice-aggregate-fill-cells-2 : tie.Need-slice-aggregate-fill-cells-2
-slice-aggregate-fill-cells-2 c = search needs
-
-fill-cells-requires-2 : tie.Need-fill-cells-requires-2
-fill-cells-requires-2 c κs =
-    let p = c .before .before .before .before .before .before .before .before .pre in
-    let q = p .1 .1 .0 in
-    (p .0, (p .1 .0, ((q .0, q .1), (λ there. (q .2 there, rights-start _ _ _), p .1 .1 .1))))
-
 same-length-3 : tie.Need-same-length-3
 same-length-3 c = search needs
 
-same-length-4 : tie.Need-same-length-4
-same-length-4 c = search needs
-
 returns-2 : tie.Need-returns-2
-returns-2 c = let f = c .before .before .before .before .before .fill-cells2 .ensures in (f .0, f .1, λ there. f .2 there .0)
+returns-2 c = let f = c .before .before .before .before .before .fill-cells .ensures in (f .0, f .1, λ there. f .2 there .0)
 
 pub fill-column-spec : {M : Type 1} → statement M
 fill-column-spec =
     tie.close
     (tie.spec
+    push-cells-requires
+    same-length
+    returns
     slice-aggregate-fill-cells
     fill-cells-requires
-    same-length
     same-length-2
-    returns
-    slice-aggregate-fill-cells-2
-    fill-cells-requires-2
     same-length-3
-    same-length-4
     returns-2)

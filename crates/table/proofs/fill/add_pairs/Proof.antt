@@ -7,9 +7,9 @@ use native.Mathlib.Omega.{arith}
 use lib.ListN.{length}
 use denote.Ref.{now}
 use Rattle.derivation.specs.Grammar.{pairCount}
+use Rattle.derivation.proofs.Sound.{pair-fits-at}
 use Rattle.layout.specs.Layout.{decode}
 use Rattle.table.specs.Fill.{pairAdds, Summed}
-use Rattle.lookup.proofs.Read.{fits}
 use Rattle.table.proofs.Cells.{summed-start, pairs-on}
 use Rattle.table.proofs.Marked.{parts-framed, none-summed}
 use Rattle.table.proofs.Slots.{cell-fits}
@@ -41,7 +41,7 @@ returns c =
     let s = c .before .before .before .before .before .before in
     let m = c .before .none-meet .ensures (c .if1 .taken) in
     let p = s .pre .1 .1 .1 in
-    let f = fits (decode (s .args .image .now)) (s .pre .0 .sound) in
+    let f = pair-fits-at (decode (s .args .image .now)) (s .pre .0 .sound) in
     none-summed _ _ _ _ _ _ _ (λ b l. (f b l .left, f b l .right)) (p .1 (m .0)) (m .1) (p .0)
 
 symbol-count-requires : tie.Need-symbol-count-requires Inv-loop μ-loop
