@@ -1,0 +1,4 @@
+pub mod Adds
+pub mod TakesBack
+pub mod Grows
+pub mod ByName
