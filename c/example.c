@@ -1,6 +1,6 @@
-/* All seven services on CHAIN and the record 7 7 7, and on CHAIN in version 2 with the flag 1 and a record without events; and the test
-   of CHAIN with its event rule twice, which names rule 1, and of CHAIN with a second symbol that a rule names and none can finish. What
-   is written is the specification's. */
+/* All seven services on CHAIN and the record 7 7 7, and on CHAIN in version 2 with the flag 1 and a record without events; a session on
+   CHAIN; and the test of CHAIN with its event rule twice, which names rule 1, and of CHAIN with a second symbol that a rule names and none
+   can finish. What is written is the specification's. */
 #include "reader.h"
 #include <stdio.h>
 
@@ -66,6 +66,34 @@ static void read_page(const uint8_t *image, size_t length, size_t n, uint32_t k,
     printf("\n");
 }
 
+static void add(struct reader_session *session, uint16_t event)
+{
+    uint64_t firings;
+    uint16_t rule;
+    bool admitted;
+    unsigned number = reader_add(chain, sizeof chain, session->chart, &session->count, event, &rule, &admitted, &firings);
+    printf("add %u %u: %u %d %llu,", event, number, rule, admitted, (unsigned long long)firings);
+    printf(" %llu\n", (unsigned long long)session->count);
+}
+
+static void take_back(struct reader_session *session)
+{
+    unsigned number = reader_take_back(session->chart, &session->count);
+    printf("take back %u: %llu\n", number, (unsigned long long)session->count);
+}
+
+/* The events as they arrive; the last is taken back for one that no rule has. Before the first there is none to take back. */
+static void follow(void)
+{
+    struct reader_session session;
+    reader_begin(session.chart, &session.count);
+    take_back(&session);
+    for (size_t x = 0; x < 3; x++)
+        add(&session, events[x]);
+    take_back(&session);
+    add(&session, 8);
+}
+
 int main(void)
 {
     test(chain, sizeof chain);
@@ -80,5 +108,6 @@ int main(void)
     read_page(chain, sizeof chain, 3, 0, 2, 19);
     read_record(quiet, sizeof quiet, 0);
     read_page(quiet, sizeof quiet, 0, 0, 1, 0);
+    follow();
     return 0;
 }

@@ -1,8 +1,8 @@
 /* The services as C functions; the archive is libboundary.a (tools/archive FOLDER). A slice is a pointer and a length in elements; a
-   pointer with the length 0 is not read but must not be null. Each answers its refusal number, or 0, and the rest of its answer
-   through the pointers behind the slices, which are always written: zeros on a refusal, but that refusals 6 and 7 give the first rule
-   at fault as the rule, numbered as the rules stand in the image; with every other answer the rule is 0. For n events a chart needs
-   n(n + 1)/2 words, a table as many for each symbol, and the room for a script 2(2n - 1), or none where n is 0; the room for a page
+   pointer with the length 0 is not read but must not be null. Each but reader_begin answers its refusal number, or 0, and the rest of
+   its answer through the pointers from the rule on, which are always written: zeros on a refusal, but that refusals 6 and 7 give the
+   first rule at fault as the rule, numbered as the rules stand in the image; with every other answer the rule is 0. For n events a chart
+   needs n(n + 1)/2 words, a table as many for each symbol, and the room for a script 2(2n - 1), or none where n is 0; the room for a page
    of m scripts m times as many. reader_judge, reader_count, reader_reading, reader_page and reader_number take about 110 kB of stack.
    docs/STATEMENTS.md says what each function promises. */
 #ifndef READER_H
@@ -46,4 +46,26 @@ uint8_t reader_number(const uint8_t *image, size_t image_len,
                       const uint16_t *script, size_t script_len,
                       uint32_t *table, size_t table_len,
                       uint16_t *rule, uint32_t *reading);
+
+/* A session takes events as they arrive: it is a chart with room for 32 of them, and their count, passed as these two parts and written
+   in place. Begun by reader_begin and with the same image for every add, its chart is that of a judgement of the events so far. An add at
+   32 events or more is refused with 17, behind the refusals of the image, and a take-back at 0 events or above 32 with 18; a refusal leaves
+   the session as it was. */
+enum { READER_SESSION_EVENTS = 32, READER_SESSION_WORDS = 528 };
+
+struct reader_session {
+    uint64_t chart[READER_SESSION_WORDS];
+    uint64_t count;
+};
+
+/* The session without events, all words zero. */
+void reader_begin(uint64_t chart[READER_SESSION_WORDS], uint64_t *count);
+
+/* Adds an event: one column, worked out from the others as they stand. The verdict is that so far, the firings are the column's. */
+uint8_t reader_add(const uint8_t *image, size_t image_len,
+                   uint64_t chart[READER_SESSION_WORDS], uint64_t *count, uint16_t event,
+                   uint16_t *rule, bool *admitted, uint64_t *firings);
+
+/* Takes the last event back: its column is cleared, and every other word of the chart stays. */
+uint8_t reader_take_back(uint64_t chart[READER_SESSION_WORDS], uint64_t *count);
 #endif

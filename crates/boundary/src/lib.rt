@@ -1,8 +1,11 @@
 // The services as C functions, for Rust and C to link. A slice passes as a pointer and a length; each answers its number, and the rest of
-// its answer through references. The contracts are those of the services.
+// its answer through references. A session passes as its words and its count, and is written in place. The contracts are those of the services.
+use session::Session;
+ghost use mathlib.Core.Path.{_≡_};
 ghost use Rattle.layout.specs.Layout.{decode};
 ghost use Rattle.image.specs.Image.{imageRows, TestedIs};
 ghost use Rattle.chart.specs.Judge.{JudgeIs};
+ghost use Rattle.session.specs.Session.{noEvents, AddIs, TakeBackIs};
 ghost use Rattle.readings.specs.Count.{CountIs};
 ghost use Rattle.readings.specs.Reading.{ReadingIs};
 ghost use Rattle.readings.specs.Page.{PageIs};
@@ -144,4 +147,62 @@ pub extern "C" fn reader_number(
     *rule = found.rule;
     *reading = found.reading;
     found.number
+}
+
+// The session without events.
+#[no_mangle]
+pub extern "C" fn reader_begin(chart: &mut [u64; session::WORDS], count: &mut u64)
+    ensures { λ _. ⌜ noEvents ≡ record { chart = now (chart .exit); count = now (count .exit) } ⌝ }
+{
+    let begun = session::begin();
+    let words = begun.chart;
+    *chart = words;
+    *count = begun.count;
+}
+
+// Adds an event to a session.
+#[no_mangle]
+pub extern "C" fn reader_add(
+    image: &[u8],
+    chart: &mut [u64; session::WORDS],
+    count: &mut u64,
+    event: u16,
+    rule: &mut u16,
+    admitted: &mut bool,
+    firings: &mut u64,
+) -> u8
+    ensures { λ n. ⌜ AddIs (now (image .entry)) (record { chart = now (chart .entry); count = now (count .entry) }) event
+        (record { session = record { chart = now (chart .exit); count = now (count .exit) }; firings = now (firings .exit); rule = now (rule .exit); number = n; admitted = now (admitted .exit) }) ⌝ }
+{
+    let before = Session {
+        chart: *chart,
+        count: *count,
+    };
+    let added = session::add(image, before, event);
+    let after = added.session;
+    let words = after.chart;
+    *chart = words;
+    *count = after.count;
+    *rule = added.rule;
+    *admitted = added.admitted;
+    *firings = added.firings;
+    added.number
+}
+
+// Takes the last event of a session back.
+#[no_mangle]
+pub extern "C" fn reader_take_back(chart: &mut [u64; session::WORDS], count: &mut u64) -> u8
+    ensures { λ n. ⌜ TakeBackIs (record { chart = now (chart .entry); count = now (count .entry) })
+        (record { session = record { chart = now (chart .exit); count = now (count .exit) }; number = n }) ⌝ }
+{
+    let before = Session {
+        chart: *chart,
+        count: *count,
+    };
+    let taken = session::take_back(before);
+    let left = taken.session;
+    let words = left.chart;
+    *chart = words;
+    *count = left.count;
+    taken.number
 }
