@@ -27,7 +27,7 @@ fn row_end(words: &[u64], from: usize) -> usize
     at
 }
 
-fn rows(words: &[u64]) {
+pub fn rows(words: &[u64]) {
     let mut at = 0;
     while at < words.len() {
         let end = row_end(words, at);

@@ -1,12 +1,14 @@
 // Runs the services on each line of standard input, and writes the line's name with the answers.
 // A line is a name, a colon, and a space and two digits for each byte of an image. Where nothing follows, the image is tested: written
-// are the number and the rule with N, L and B, and both for records of 96 and of 97 events. Where a semicolon follows, a record is judged, and
-// where a bar follows, its readings are asked for: behind the bar are its events, two bytes each. A line that ends there asks for
-// every number; where a semicolon follows, for one number, and where a second bar follows, for a page.
+// are the number and the rule with N, L and B, and both for records of 96 and of 97 events. Where a semicolon follows, a record is judged,
+// where a plus follows, a session is run, and where a bar follows, the readings of a record are asked for: behind the bar are its events, two
+// bytes each. A line that ends there asks for every number; where a semicolon follows, for one number, and where a second bar follows, for a
+// page.
 mod judging; // a line that judges a record
 mod ask; // a line that asks for one number
 mod every; // a line that asks for every number
 mod paging; // a line that asks for a page
+mod stepping; // a line that runs a session
 mod digest; // answers and words as they are written
 
 use digest::write_refusal;
@@ -16,7 +18,7 @@ use lines::find;
 use lines::read_bytes;
 use lines::read_words;
 use lines::value;
-ghost use Prim.Native.Nat.{_<_};
+ghost use Prim.Native.Nat.{_≤_};
 ghost use lib.ListN.{length};
 
 // The most words that are lent as a chart or a count table, and as a script: those of the longest record and one symbol, and some more.
@@ -57,30 +59,43 @@ fn run_readings(image: &[u8], text: &[u8]) {
     ask::run(image, &events[..n], &text[behind..]);
 }
 
-// What follows the name, where there is a bar in it.
-fn run_barred(text: &[u8], bar: usize, image: &mut [u8])
-    requires { ⌜ bar < length (now text) ⌝ }
+// What follows the image and its mark.
+fn run_marked(mark: u8, image: &[u8], text: &[u8]) {
+    if mark == b'|' {
+        run_readings(image, text);
+        return;
+    }
+    if mark == b'+' {
+        stepping::run(image, text);
+        return;
+    }
+    judging::run(image, text);
+}
+
+fn least(a: usize, b: usize) -> usize
+    ensures { λ r. ⌜ r ≤ a ⌝ }
 {
-    let count = read_bytes(&text[..bar], image);
-    let behind = bar + 1;
-    run_readings(&image[..count], &text[behind..]);
+    if a < b { a } else { b }
+}
+
+// The first mark, or the end.
+fn image_end(text: &[u8]) -> usize
+    ensures { λ r. ⌜ r ≤ length (now (text .entry)) ⌝ }
+{
+    let marked = least(find(text, 0, b'|'), find(text, 0, b'+'));
+    least(marked, find(text, 0, b';'))
 }
 
 // What follows the name.
 fn run_case(text: &[u8], image: &mut [u8]) {
-    let bar = find(text, 0, b'|');
-    if bar < text.len() {
-        run_barred(text, bar, image);
-        return;
-    }
-    let end = find(text, 0, b';');
+    let end = image_end(text);
     let count = read_bytes(&text[..end], image);
     if end == text.len() {
         test(&image[..count]);
         return;
     }
     let behind = end + 1;
-    judging::run(&image[..count], &text[behind..]);
+    run_marked(text[end], &image[..count], &text[behind..]);
 }
 
 fn run_line(line: &[u8], image: &mut [u8]) {

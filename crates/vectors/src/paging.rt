@@ -34,7 +34,7 @@ fn lend(image: &[u8], events: &[u16], k: u32, m: u32, size: usize, space: usize)
 }
 
 // A number of two words, the low one first.
-fn number(low: u16, high: u16) -> u32 {
+pub fn number(low: u16, high: u16) -> u32 {
     let n = size(low) + 65536 * size(high);
     n as u32
 }

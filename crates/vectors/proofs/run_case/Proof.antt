@@ -1,4 +1,4 @@
--- The text before a mark is a part of it, and no more bytes are passed than were read.
+-- The image is a part of the text, and no more bytes are passed than were read.
 -- Assumes nothing.
 use mathlib.Core.Path.{sym}
 use lib.Seq.{length-take-le}
@@ -6,23 +6,11 @@ use borrow.Author.Needs.{needs}
 use Rattle.vectors.proofs.run_case.Statement.{statement}
 use Rattle.vectors.proofs.run_case.Tie as tie
 
-find-requires : tie.Need-find-requires
-find-requires c κs = search needs
-
-run-barred-requires : tie.Need-run-barred-requires
-run-barred-requires c κs = search needs
-
-same-length : tie.Need-same-length
-same-length c = search needs
-
-returns : tie.Need-returns
-returns c = search needs
-
-find-requires-2 : tie.Need-find-requires-2
-find-requires-2 c κs = search needs
+image-end-requires : tie.Need-image-end-requires
+image-end-requires c κs = search needs
 
 slice-aggregate-read-bytes : tie.Need-slice-aggregate-read-bytes
-slice-aggregate-read-bytes c = sym (length-take-le _ _ (c .before .find2 .ensures .1))
+slice-aggregate-read-bytes c = sym (length-take-le _ _ (c .before .image-end .ensures))
 
 read-bytes-requires : tie.Need-read-bytes-requires
 read-bytes-requires c κs = search needs
@@ -36,61 +24,61 @@ slice-aggregate-test c = sym (length-take-le _ _ (c .before .before .before .bef
 test-requires : tie.Need-test-requires
 test-requires c κs = search needs
 
+same-length : tie.Need-same-length
+same-length c = search needs
+
+returns : tie.Need-returns
+returns c = search needs
+
+add-behind : tie.Need-add-behind
+add-behind c = search needs
+
+shared-slice-read-run-marked : tie.Need-shared-slice-read-run-marked
+shared-slice-read-run-marked c = search needs
+
+slice-reshare-prefix-run-marked : tie.Need-slice-reshare-prefix-run-marked
+slice-reshare-prefix-run-marked c = search needs
+
+slice-aggregate-run-marked : tie.Need-slice-aggregate-run-marked
+slice-aggregate-run-marked c = sym (length-take-le _ _ (c .before .before .before .before .before .read-bytes .ensures))
+
+sub-run-marked : tie.Need-sub-run-marked
+sub-run-marked c = search needs
+
+part-run-marked-start : tie.Need-part-run-marked-start
+part-run-marked-start c = search needs
+
+part-run-marked-end : tie.Need-part-run-marked-end
+part-run-marked-end c = search needs
+
+run-marked-requires : tie.Need-run-marked-requires
+run-marked-requires c κs = search needs
+
 same-length-2 : tie.Need-same-length-2
 same-length-2 c = search needs
 
 returns-2 : tie.Need-returns-2
 returns-2 c = search needs
 
-add-behind : tie.Need-add-behind
-add-behind c = search needs
-
-slice-reshare-prefix-run : tie.Need-slice-reshare-prefix-run
-slice-reshare-prefix-run c = search needs
-
-slice-aggregate-run : tie.Need-slice-aggregate-run
-slice-aggregate-run c = sym (length-take-le _ _ (c .before .before .before .before .read-bytes .ensures))
-
-sub-run : tie.Need-sub-run
-sub-run c = search needs
-
-part-run-start : tie.Need-part-run-start
-part-run-start c = search needs
-
-part-run-end : tie.Need-part-run-end
-part-run-end c = search needs
-
-run-requires : tie.Need-run-requires
-run-requires c κs = search needs
-
-same-length-3 : tie.Need-same-length-3
-same-length-3 c = search needs
-
-returns-3 : tie.Need-returns-3
-returns-3 c = search needs
-
 pub run-case-spec : {M : Type 1} → statement M
 run-case-spec =
     tie.close
     (tie.spec
-    find-requires
-    run-barred-requires
-    same-length
-    returns
-    find-requires-2
+    image-end-requires
     slice-aggregate-read-bytes
     read-bytes-requires
     slice-reshare-prefix-test
     slice-aggregate-test
     test-requires
-    same-length-2
-    returns-2
+    same-length
+    returns
     add-behind
-    slice-reshare-prefix-run
-    slice-aggregate-run
-    sub-run
-    part-run-start
-    part-run-end
-    run-requires
-    same-length-3
-    returns-3)
+    shared-slice-read-run-marked
+    slice-reshare-prefix-run-marked
+    slice-aggregate-run-marked
+    sub-run-marked
+    part-run-marked-start
+    part-run-marked-end
+    run-marked-requires
+    same-length-2
+    returns-2)
