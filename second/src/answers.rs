@@ -53,3 +53,13 @@ pub struct Paged {
     /// How many scripts are written.
     pub written: u32,
 }
+
+#[derive(Clone, Copy, Debug, Default, PartialEq)]
+pub struct Added {
+    pub number: u8,
+    pub rule: u16,
+    /// The verdict on the events so far.
+    pub admitted: bool,
+    /// Those of the new column alone.
+    pub firings: u64,
+}

@@ -12,4 +12,5 @@ pub mod live;
 pub mod random;
 pub mod readings;
 pub mod services;
+pub mod session;
 pub mod trees;

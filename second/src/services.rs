@@ -1,4 +1,4 @@
-//! The seven services.
+//! The seven services that keep nothing from one call to the next.
 
 pub use crate::answers::{Checked, Counted, Judged, Numbered, Paged, Read, Tested};
 use crate::derive::{cell, cells, derivable, firings, stretches};

@@ -11,6 +11,7 @@ use second::random::Random;
 use second::readings::{is_reading, listed};
 use second::services::{check, count, judge, number, page, reading, test};
 use second::services::{Checked, Counted, Judged, Numbered, Paged, Read, Tested};
+use second::session::{add, begin};
 use second::trees::script_words;
 
 /// With one rule, with few, and with as many as there may be.
@@ -267,6 +268,12 @@ fn everything(image: &[u8], events: &[u16]) -> String {
             let numbered = number(image, events, words, &mut table);
             told += &format!(" {checked:?} {numbered:?} {table:?}");
         }
+    }
+    let mut session = begin();
+    for &event in events {
+        let added;
+        (session, added) = add(image, session, event);
+        told += &format!(" {session:?} {added:?}");
     }
     told
 }

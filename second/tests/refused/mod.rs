@@ -2,8 +2,9 @@
 
 use second::services::{check, count, judge, number, page, reading, test};
 use second::services::{Checked, Counted, Judged, Numbered, Paged, Read, Tested};
+use second::session::{add, Added, Session, CHART_WORDS};
 
-/// Whether or not record and rooms are at fault too.
+/// Whether or not record, rooms and session are at fault too.
 pub fn image_is_refused(told: (u8, u16), image: &[u8]) {
     let tested = Tested {
         number: told.0,
@@ -13,6 +14,21 @@ pub fn image_is_refused(told: (u8, u16), image: &[u8]) {
     assert_eq!(test(image), tested, "{image:?}");
     every_service_refuses(told, image, &[1], 64);
     every_service_refuses(told, image, &[1; 97], 0);
+    nothing_is_added(told, image);
+}
+
+/// To sessions of few events, of the most and of more.
+fn nothing_is_added((number, rule): (u8, u16), image: &[u8]) {
+    let refused = Added {
+        number,
+        rule,
+        ..Added::default()
+    };
+    for count in [0, 1, 31, 32, 33, u64::MAX] {
+        let chart = [9; CHART_WORDS];
+        let session = Session { chart, count };
+        assert_eq!(add(image, session, 1), (session, refused));
+    }
 }
 
 /// Refused with this number and rule, zeros elsewhere and nothing written, whatever the room.

@@ -1,10 +1,9 @@
 //! What one service gives another gives too: numbers and scripts undo each other, and the scripts
 //! of a page are those of single readings.
 
+use crate::calls::Called;
 use crate::lent::Lent;
 use crate::setting::{Call, Setting};
-use crate::sides::answer;
-use crate::Called;
 use second::random::Random;
 use second::trees::script_words;
 
@@ -25,8 +24,8 @@ pub fn again(random: &mut Random, called: &Called) -> Option<(Setting, Called)> 
         Call::Reading { k, table, script } => {
             let script = Lent::holding(random, &script.slice()[..words]);
             let table = table.clone();
-            let number = with_call(setting, Call::Number { script, table });
-            let told = ended(&number, [(*k).into(), 0, 0]);
+            let number = setting.with_call(Call::Number { script, table });
+            let told = Called::with_success([(*k).into(), 0, 0], number.clone());
             Some((number, told))
         }
         Call::Number { script, table } => {
@@ -51,25 +50,10 @@ fn reading(
     words: &[u16],
 ) -> (Setting, Called) {
     let (table, script) = (table.clone(), Lent::room(random, words.len()));
-    let reading = with_call(setting, Call::Reading { k, table, script });
-    let mut told = ended(&reading, [0; 3]);
+    let reading = setting.with_call(Call::Reading { k, table, script });
+    let mut told = Called::with_success([0; 3], reading.clone());
     if let Call::Reading { script, .. } = &mut told.setting.call {
         script.slice_mut().copy_from_slice(words);
     }
     (reading, told)
-}
-
-fn with_call(setting: &Setting, call: Call) -> Setting {
-    Setting {
-        call,
-        ..setting.clone()
-    }
-}
-
-/// With success, and all that was lent as it was.
-fn ended(lent: &Setting, rest: [u64; 3]) -> Called {
-    Called {
-        answer: answer(0, 0, rest),
-        setting: lent.clone(),
-    }
 }

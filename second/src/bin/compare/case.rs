@@ -32,6 +32,11 @@ pub struct Case<'a> {
     table: usize,
 }
 
+/// N, as far as that can be told of a refused image.
+pub fn symbols_shown(image: &[u8]) -> usize {
+    image.get(5).map_or(1, |&n| n.clamp(1, 64).into())
+}
+
 impl<'a> Case<'a> {
     pub fn new(
         random: &'a mut Random,
@@ -40,7 +45,6 @@ impl<'a> Case<'a> {
         events: &'a [u16],
     ) -> Self {
         let n = events.len().min(LONGEST);
-        let symbols = image.get(5).map_or(1, |&n| n.clamp(1, 64) as usize);
         Case {
             random,
             tally,
@@ -48,7 +52,7 @@ impl<'a> Case<'a> {
             events,
             accepted: decode(image).is_ok(),
             n,
-            table: symbols * cells(n),
+            table: symbols_shown(image) * cells(n),
         }
     }
 

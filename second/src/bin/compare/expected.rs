@@ -1,6 +1,7 @@
 //! What must occur in many cases if they are what they are meant to be.
 
 use crate::changes::CHANGES;
+use crate::columns;
 use crate::damage::FAULTS;
 use crate::draw::KINDS;
 use crate::filled;
@@ -10,11 +11,12 @@ use crate::numbers::LATE;
 use crate::pages;
 use crate::quiet;
 use crate::remarks::{names, OF_RULES};
+use crate::strange;
 use crate::symbols::OF_SYMBOLS;
 use second::drawn::SORTS;
 
-/// The numbers of each service.
-const NUMBERS: [(&str, &[u8]); 7] = [
+/// The numbers of each service that takes an image.
+const NUMBERS: [(&str, &[u8]); 8] = [
     ("test", &[0, 1, 2, 3, 4, 5, 6, 7, 15]),
     ("judge", &[0, 1, 2, 3, 4, 5, 6, 7, 15, 8, 9]),
     ("count", &[0, 1, 2, 3, 4, 5, 6, 7, 15, 8, 10]),
@@ -22,7 +24,11 @@ const NUMBERS: [(&str, &[u8]); 7] = [
     ("check", &[0, 1, 2, 3, 4, 5, 6, 7, 15, 8]),
     ("number", &[0, 1, 2, 3, 4, 5, 6, 7, 15, 8, 10, 12, 13]),
     ("page", &[0, 1, 2, 3, 4, 5, 6, 7, 15, 8, 10, 11, 12, 13]),
+    ("add", &[0, 1, 2, 3, 4, 5, 6, 7, 15, 17]),
 ];
+
+/// Those that take a record.
+pub const OF_A_RECORD: [&str; 6] = ["judge", "count", "reading", "check", "number", "page"];
 
 const ROOMS: [&str; 4] = ["chart", "table", "script room", "page room"];
 
@@ -98,7 +104,7 @@ pub fn expected() -> Vec<String> {
         all.extend(later.map(|n| format!("{service}: number 15 before {n}")));
         all.extend([0, 1].map(|flag| format!("{service}: twin with flag {flag}")));
     }
-    for (service, _) in &NUMBERS[1..] {
+    for service in OF_A_RECORD {
         all.extend(LENGTHS.map(|n| format!("{service}: {n} events, number 0")));
         all.push(format!("{service}: 97 events, number 8"));
     }
@@ -118,6 +124,8 @@ pub fn expected() -> Vec<String> {
     all.extend(pages::expected());
     all.extend(quiet::expected());
     all.extend(filled::expected());
+    all.extend(columns::expected());
+    all.extend(strange::expected());
     all.extend(OTHERS.map(str::to_string));
     all
 }

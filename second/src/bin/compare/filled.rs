@@ -5,12 +5,15 @@ use crate::layered::{LENGTHS, PAST_WORD};
 use crate::setting::{Call, Setting};
 use second::derive::{cell, cells, stretches};
 use second::image::{decode, Grammar};
+use std::ops::Range;
 
 /// From here on charts are told apart by how full they are.
 const LONG: usize = 63;
 
 /// A split here or later has no bit in a word.
 const WORD_BITS: usize = 64;
+
+pub const EVENT_BITS: Range<u16> = 0..16;
 
 /// What a call left of an accepted image and a record.
 struct Filled {
@@ -49,7 +52,7 @@ pub fn expected() -> Vec<String> {
     all.extend(LENGTHS.map(of_length));
     let past_word = PAST_WORD.into_iter();
     all.extend(past_word.flat_map(|n| OF_SPLITS.map(|(what, _)| of_splits(n, what))));
-    all.extend((0..16).map(but_for_bit));
+    all.extend(EVENT_BITS.map(but_for_bit));
     let judged = all.iter().map(|what| format!("judge: {what}"));
     let mut lines: Vec<_> = judged.collect();
     all.extend(OF_TABLES.map(|(what, _)| what.to_string()));
@@ -60,7 +63,7 @@ pub fn expected() -> Vec<String> {
 }
 
 /// Something that may be true of what a call left.
-type Fact<Of> = (&'static str, fn(&Of) -> bool);
+pub type Fact<Of> = (&'static str, fn(&Of) -> bool);
 
 const OF_CHARTS: [Fact<Filled>; 19] = [
     ("long, items of single events alone", |f| {
@@ -154,8 +157,23 @@ fn of_splits(n: usize, what: &str) -> String {
     format!("{n} events, {what}")
 }
 
-fn but_for_bit(bit: u16) -> String {
+pub fn but_for_bit(bit: u16) -> String {
     format!("an event of no rule but for bit {bit}")
+}
+
+/// What is told where an event of no rule would be one of a rule if one bit were changed.
+pub fn but_for_bits(grammar: &Grammar, events: &[u16]) -> Vec<String> {
+    let known = |event| symbols_of(grammar, event) > 0;
+    let but_for = |bit: &u16| {
+        let mut events = events.iter();
+        events.any(|&event| !known(event) && known(event ^ 1 << bit))
+    };
+    EVENT_BITS.filter(but_for).map(but_for_bit).collect()
+}
+
+fn symbols_of(grammar: &Grammar, event: u16) -> usize {
+    let rules = grammar.event_rules.iter();
+    rules.filter(|rule| rule.event == event).count()
 }
 
 impl Stretch {
@@ -207,7 +225,7 @@ impl Filled {
             let splits = OF_SPLITS.iter().filter(is_split);
             remarks.extend(splits.map(|(what, _)| of_splits(n, what)));
         }
-        remarks.extend((0..16).filter(|&b| self.unknown_by(b)).map(but_for_bit));
+        remarks.extend(but_for_bits(&self.grammar, &self.events));
         if n > WORD_BITS {
             remarks.extend(facts_about(&OF_TABLES, self).map(str::to_string));
         }
@@ -216,15 +234,7 @@ impl Filled {
 
     /// How many symbols turn into the event.
     fn symbols_of(&self, event: u16) -> usize {
-        let rules = self.grammar.event_rules.iter();
-        rules.filter(|rule| rule.event == event).count()
-    }
-
-    /// Whether an event of no rule would be one of a rule if this bit were changed.
-    fn unknown_by(&self, bit: u16) -> bool {
-        let known = |event| self.symbols_of(event) > 0;
-        let mut events = self.events.iter();
-        events.any(|&event| !known(event) && known(event ^ 1 << bit))
+        symbols_of(&self.grammar, event)
     }
 
     fn items(&self) -> usize {
@@ -276,7 +286,7 @@ impl Filled {
     }
 }
 
-fn facts_about<'a, Of>(
+pub fn facts_about<'a, Of>(
     facts: &'a [Fact<Of>],
     of: &'a Of,
 ) -> impl Iterator<Item = &'static str> + 'a {

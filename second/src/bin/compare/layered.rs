@@ -127,7 +127,7 @@ fn any_pair(random: &mut Random, symbols: usize) -> PairRule {
     pair_rule(symbol, [left, right])
 }
 
-fn but_for_one_bit(random: &mut Random, event: u16) -> u16 {
+pub fn but_for_one_bit(random: &mut Random, event: u16) -> u16 {
     event ^ 1 << random.below(16)
 }
 

@@ -1,6 +1,8 @@
 //! Memory as it is lent to a service, among words that are none of its business.
 
+use crate::sides::Chart;
 use second::random::Random;
+use second::session::Session;
 use std::fmt::Debug;
 
 /// A word of the lent memory.
@@ -44,16 +46,25 @@ pub struct Lent<T> {
 impl<T: Word> Lent<T> {
     /// A slice of any words, so that one left unwritten is seen.
     pub fn room(random: &mut Random, len: usize) -> Self {
+        Lent::guarded(random, len, 8)
+    }
+
+    /// With so many guard words behind it.
+    fn guarded(random: &mut Random, len: usize, behind: usize) -> Self {
         // Any number before it, so that bytes start at odd addresses too.
         let start = random.within(1, 9);
-        let words = (0..start + len + 8).map(|_| T::any(random)).collect();
+        let words = (0..start + len + behind).map(|_| T::any(random)).collect();
         Lent { words, start, len }
     }
 
     pub fn holding(random: &mut Random, words: &[T]) -> Self {
-        let mut lent = Lent::room(random, words.len());
-        lent.slice_mut().copy_from_slice(words);
-        lent
+        Lent::room(random, words.len()).with(words)
+    }
+
+    /// With these words in the slice.
+    pub fn with(mut self, words: &[T]) -> Self {
+        self.slice_mut().copy_from_slice(words);
+        self
     }
 
     pub fn slice(&self) -> &[T] {
@@ -72,5 +83,47 @@ impl<T: Word> Lent<T> {
         let (ours, others) = (self.words[found], other.words[found]);
         let place = found as isize - self.start as isize;
         Some(format!("word {place}, {ours:?} beside {others:?}"))
+    }
+}
+
+/// A session in its two parts.
+#[derive(Clone, PartialEq)]
+pub struct LentSession {
+    pub chart: Lent<u64>,
+    pub count: Lent<u64>,
+}
+
+impl LentSession {
+    pub fn holding(random: &mut Random, session: &Session) -> Self {
+        LentSession {
+            // One column more would have 33 words.
+            chart: Lent::guarded(random, session.chart.len(), 40).with(&session.chart),
+            count: Lent::holding(random, &[session.count]),
+        }
+    }
+
+    /// With another session in the same place.
+    pub fn with(self, session: &Session) -> Self {
+        LentSession {
+            chart: self.chart.with(&session.chart),
+            count: self.count.with(&[session.count]),
+        }
+    }
+
+    pub fn session(&self) -> Session {
+        let chart = self.chart.slice().try_into().expect("a session's chart");
+        let count = self.count.slice()[0];
+        Session { chart, count }
+    }
+
+    pub fn describe(&self) -> String {
+        let Session { chart, count } = self.session();
+        format!("count = {count}, chart {chart:x?}")
+    }
+
+    pub fn parts(&mut self) -> (&mut Chart, &mut u64) {
+        let chart = self.chart.slice_mut().try_into();
+        let count = &mut self.count.slice_mut()[0];
+        (chart.expect("a session's chart"), count)
     }
 }

@@ -1,17 +1,21 @@
 //! compare [--seed S] [--case I] [N]: the proved reader beside this one in N random cases, or in
-//! case I alone. A case is one image and one record through all seven services. Both sides must
-//! agree in every answer and in every word, lent or not, and the proved reader with itself if a
-//! version 1 image is replaced by its twin of version 2, if a number or a script is turned into the
-//! other and back, and if a script of a page is asked for alone. Stops at the first difference.
+//! case I alone. A case is one image and one record through all seven services, and sessions with
+//! that image. Both sides must agree in every answer and in every word, lent or not, and the proved
+//! reader with itself if a version 1 image is replaced by its twin of version 2, if a number or a
+//! script is turned into the other and back, if a script of a page is asked for alone, and if the
+//! events of a session are judged afresh. Stops at the first difference.
 
 mod again;
+mod calls;
 mod case;
 mod changes;
+mod columns;
 mod damage;
 mod dead;
 mod draw;
 mod expected;
 mod filled;
+mod grown;
 mod layered;
 mod layouts;
 mod lent;
@@ -24,22 +28,24 @@ mod quiet;
 mod remarks;
 mod scripts;
 mod seams;
+mod sessions;
 mod setting;
 mod sides;
+mod strange;
 mod symbols;
 mod tally;
 mod versions;
 
 use again::again;
+use calls::{compare_again, compared};
 use case::Case;
 use damage::FAULTS;
-use proved::PROVED;
 use second::random::Random;
-use setting::Setting;
-use sides::{Answer, Side, SECOND};
+use sessions::Sessions;
+use sides::{Answer, SECOND};
 use std::process::ExitCode;
 use tally::Tally;
-use versions::{in_any_version, twin};
+use versions::in_any_version;
 
 /// In so many cases everything that is expected must occur.
 const ENOUGH: u64 = 20_000;
@@ -133,70 +139,12 @@ fn compare(seed: u64, case: u64, tally: &mut Tally) -> Result<(), String> {
         tally.add(format!("kind: {name}, number {number}"));
     }
     for step in plan::steps(&mut Case::new(&mut random, tally, &image, &events)) {
-        let second = called(&SECOND, &step.setting);
-        compare_sides(&step.setting, &second)?;
-        if let Some((flag, twin)) = twin(&mut random, &step.setting) {
-            tally.add(format!("{}: twin with flag {flag}", twin.service()));
-            compare_twin(&twin, &second)?;
-        }
+        let second = compared(&mut random, tally, &step.setting)?;
         if let Some((again, told)) = again(&mut random, &second) {
             tally.add(format!("{}: told again", step.setting.service()));
             compare_again(&again, &told)?;
         }
         notes::note(tally, &step, &second);
     }
-    Ok(())
-}
-
-/// How a call ended.
-struct Called {
-    answer: Answer,
-    /// What was lent, as the call left it.
-    setting: Setting,
-}
-
-fn called(side: &Side, setting: &Setting) -> Called {
-    let mut setting = setting.clone();
-    let answer = setting.answer(side);
-    Called { answer, setting }
-}
-
-/// Both sides must agree.
-fn compare_sides(lent: &Setting, second: &Called) -> Result<(), String> {
-    let proved = called(&PROVED, lent);
-    agree(lent, [("proved", &proved), ("second", second)])
-}
-
-/// The proved side must end with the twin as both sides did with the version 1 image.
-fn compare_twin(twin: &Setting, second: &Called) -> Result<(), String> {
-    let proved = called(&PROVED, twin);
-    let setting = Setting {
-        image: twin.image.clone(),
-        ..second.setting.clone()
-    };
-    let answer = second.answer;
-    let version_1 = Called { answer, setting };
-    agree(twin, [("version 2", &proved), ("version 1", &version_1)])
-}
-
-/// The proved side must end as another call of it told.
-fn compare_again(again: &Setting, told: &Called) -> Result<(), String> {
-    let proved = called(&PROVED, again);
-    agree(again, [("proved", &proved), ("told", told)])
-}
-
-/// An error if two calls that were lent the same don't end alike, and in what.
-fn agree(lent: &Setting, [one, other]: [(&str, &Called); 2]) -> Result<(), String> {
-    let ((one_name, one), (other_name, other)) = (one, other);
-    if one.answer == other.answer && one.setting == other.setting {
-        return Ok(());
-    }
-    let word = one.setting.difference(&other.setting);
-    Err(format!(
-        "{}\nthe {one_name} answer: {:?}\nthe {other_name} answer: {:?}\nfirst different word: {}",
-        lent.describe(),
-        one.answer,
-        other.answer,
-        word.unwrap_or("none".to_string()),
-    ))
+    Sessions::new(&mut random, tally, &image, &events).compare()
 }

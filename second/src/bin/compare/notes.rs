@@ -1,16 +1,16 @@
 //! What the tally says of a call.
 
+use crate::calls::Called;
 use crate::case::Step;
 use crate::filled;
 use crate::layered::LENGTHS;
 use crate::pages;
 use crate::quiet;
 use crate::remarks::remarks;
-use crate::setting::Call;
+use crate::setting::{Call, Setting};
 use crate::sides::Answer;
 use crate::symbols::{later_refusal, table_words};
 use crate::tally::Tally;
-use crate::Called;
 use second::services::MOST_EVENTS;
 
 /// The firings of the largest image and record with every symbol in every cell.
@@ -19,11 +19,8 @@ const MOST_FIRINGS: u64 = 37_750_784;
 pub fn note(tally: &mut Tally, step: &Step, second: &Called) {
     let answer = &second.answer;
     let number = answer.number;
-    let service = step.setting.service();
-    tally.add(format!("{service}: number {number}"));
-    for remark in remarks(step.setting.image.slice(), answer) {
-        tally.add(format!("{service}: number {number}, {remark}"));
-    }
+    note_number(tally, &step.setting, answer);
+    note_image(tally, &step.setting, answer);
     note_length(tally, step, answer);
     if number == 15 {
         note_dead(tally, step);
@@ -41,6 +38,18 @@ pub fn note(tally: &mut Tally, step: &Step, second: &Called) {
         for line in filled::lines(&second.setting) {
             tally.add(line);
         }
+    }
+}
+
+pub fn note_number(tally: &mut Tally, setting: &Setting, answer: &Answer) {
+    let (service, number) = (setting.service(), answer.number);
+    tally.add(format!("{service}: number {number}"));
+}
+
+pub fn note_image(tally: &mut Tally, setting: &Setting, answer: &Answer) {
+    let (service, number) = (setting.service(), answer.number);
+    for remark in remarks(setting.image.slice(), answer) {
+        tally.add(format!("{service}: number {number}, {remark}"));
     }
 }
 

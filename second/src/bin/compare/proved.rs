@@ -1,6 +1,6 @@
 //! The proved side, from its archive.
 
-use crate::sides::{answer, Answer, Side};
+use crate::sides::{answer, Answer, Chart, Side};
 
 pub const PROVED: Side = Side {
     test: proved_test,
@@ -10,6 +10,9 @@ pub const PROVED: Side = Side {
     check: proved_check,
     number: proved_number,
     page: proved_page,
+    begin: proved_begin,
+    add: proved_add,
+    take_back: proved_take_back,
 };
 
 // A yes or no is taken as a byte, so that one that is neither 0 nor 1 is seen.
@@ -93,10 +96,23 @@ extern "C" {
         rule: *mut u16,
         written: *mut u32,
     ) -> u8;
+    fn reader_begin(chart: *mut u64, count: *mut u64);
+    fn reader_add(
+        image: *const u8,
+        image_len: usize,
+        chart: *mut u64,
+        count: *mut u64,
+        event: u16,
+        rule: *mut u16,
+        admitted: *mut u8,
+        firings: *mut u64,
+    ) -> u8;
+    fn reader_take_back(chart: *mut u64, count: *mut u64) -> u8;
 }
 
-// SAFETY, of every call below: each pointer goes with the length of the slice that it came from or
-// points to a local of its type; the proved side stays within them and keeps none.
+// SAFETY, of every call below: each pointer goes with the length of the slice that it came from, is
+// that of a session's chart, which has the length that it must have, or points to one word of its
+// type; the proved side stays within them and keeps none.
 //
 // The locals hold what no answer is, so that one left unwritten is seen.
 
@@ -244,4 +260,31 @@ fn proved_page(
         )
     };
     answer(number, rule, [written.into(), 0, 0])
+}
+
+fn proved_begin(chart: &mut Chart, count: &mut u64) -> Answer {
+    unsafe { reader_begin(chart.as_mut_ptr(), count) };
+    answer(0, 0, [0; 3])
+}
+
+fn proved_add(image: &[u8], chart: &mut Chart, count: &mut u64, event: u16) -> Answer {
+    let (mut rule, mut admitted, mut firings) = (u16::MAX, u8::MAX, u64::MAX);
+    let number = unsafe {
+        reader_add(
+            image.as_ptr(),
+            image.len(),
+            chart.as_mut_ptr(),
+            count,
+            event,
+            &mut rule,
+            &mut admitted,
+            &mut firings,
+        )
+    };
+    answer(number, rule, [admitted.into(), firings, 0])
+}
+
+fn proved_take_back(chart: &mut Chart, count: &mut u64) -> Answer {
+    let number = unsafe { reader_take_back(chart.as_mut_ptr(), count) };
+    answer(number, 0, [0; 3])
 }

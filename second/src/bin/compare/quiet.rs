@@ -1,5 +1,6 @@
 //! What services say of an empty record.
 
+use crate::expected::OF_A_RECORD;
 use crate::setting::{Call, Setting};
 use crate::sides::Answer;
 use second::image::{header_bytes, well_formed};
@@ -84,8 +85,7 @@ pub fn expected() -> Vec<String> {
             let past_0 = format!("k past 0, m = {m}, number 12, 0 written");
             all.extend([of_0, past_0].map(|said| told(image, "page", &said)));
         }
-        let services = ["judge", "count", "reading", "check", "number", "page"];
-        all.extend(services.map(|service| told(image, service, "number 15")));
+        all.extend(OF_A_RECORD.map(|service| told(image, service, "number 15")));
     }
     all
 }

@@ -1,6 +1,6 @@
 //! A service with all that it is lent.
 
-use crate::lent::{Lent, Word};
+use crate::lent::{Lent, LentSession, Word};
 use crate::sides::{Answer, Side};
 
 /// A service, and the memory that it alone is lent.
@@ -31,14 +31,38 @@ pub enum Call {
         table: Lent<u32>,
         room: Lent<u16>,
     },
+    Begin {
+        session: LentSession,
+    },
+    Add {
+        session: LentSession,
+        event: u16,
+    },
+    TakeBack {
+        session: LentSession,
+    },
 }
 
 impl Call {
     fn chart(&self) -> Option<&Lent<u64>> {
         match self {
             Call::Judge { chart } => Some(chart),
+            call => Some(&call.session()?.chart),
+        }
+    }
+
+    fn session(&self) -> Option<&LentSession> {
+        match self {
+            Call::Begin { session } | Call::Add { session, .. } | Call::TakeBack { session } => {
+                Some(session)
+            }
             _ => None,
         }
+    }
+
+    /// How many events the session has.
+    fn count(&self) -> Option<&Lent<u64>> {
+        Some(&self.session()?.count)
     }
 
     pub fn table(&self) -> Option<&Lent<u32>> {
@@ -67,11 +91,26 @@ impl Call {
 #[derive(Clone, PartialEq)]
 pub struct Setting {
     pub image: Lent<u8>,
+    /// Of a call with a session those that are known of it: all if it was grown, and the one that
+    /// is added.
     pub events: Lent<u16>,
     pub call: Call,
 }
 
 impl Setting {
+    /// Another call with the same image and events.
+    pub fn with_call(&self, call: Call) -> Self {
+        Setting {
+            call,
+            ..self.clone()
+        }
+    }
+
+    /// That of a call with one.
+    pub fn session(&self) -> &LentSession {
+        self.call.session().expect("a call with a session")
+    }
+
     pub fn answer(&mut self, side: &Side) -> Answer {
         let (image, events) = (self.image.slice(), self.events.slice());
         match &mut self.call {
@@ -89,6 +128,18 @@ impl Setting {
                 let (table, room) = (table.slice_mut(), room.slice_mut());
                 (side.page)(image, events, *k, *m, table, room)
             }
+            Call::Begin { session } => {
+                let (chart, count) = session.parts();
+                (side.begin)(chart, count)
+            }
+            Call::Add { session, event } => {
+                let (chart, count) = session.parts();
+                (side.add)(image, chart, count, *event)
+            }
+            Call::TakeBack { session } => {
+                let (chart, count) = session.parts();
+                (side.take_back)(chart, count)
+            }
         }
     }
 
@@ -101,6 +152,9 @@ impl Setting {
             Call::Check { .. } => "check",
             Call::Number { .. } => "number",
             Call::Page { .. } => "page",
+            Call::Begin { .. } => "begin",
+            Call::Add { .. } => "add",
+            Call::TakeBack { .. } => "take-back",
         }
     }
 
@@ -123,6 +177,8 @@ impl Setting {
                 let (table, room) = (table.slice().len(), room.slice().len());
                 format!("k = {k}, m = {m}, table of {table} words, room of {room} words")
             }
+            Call::Begin { session } | Call::TakeBack { session } => session.describe(),
+            Call::Add { session, event } => format!("event = {event}, {}", session.describe()),
         };
         let (image, events) = (self.image.slice(), self.events.slice());
         let service = self.service();
@@ -136,6 +192,7 @@ impl Setting {
             ("image", self.image.difference(&other.image)),
             ("events", self.events.difference(&other.events)),
             ("chart", difference(ours.chart(), others.chart())),
+            ("count", difference(ours.count(), others.count())),
             ("table", difference(ours.table(), others.table())),
             ("script", difference(ours.script(), others.script())),
         ];

@@ -1,6 +1,7 @@
-//! What both sides offer: the same seven functions.
+//! What both sides offer: the same functions.
 
 use second::services;
+use second::session::{self, Session, CHART_WORDS};
 
 /// A refusal's number, or 0, the rule at fault, and then the service's other answers in the order
 /// of the C function; 0 where a service has fewer.
@@ -18,6 +19,12 @@ type Reading = fn(&[u8], &[u16], u32, &mut [u32], &mut [u16]) -> Answer;
 type Check = fn(&[u8], &[u16], &[u16]) -> Answer;
 type Number = fn(&[u8], &[u16], &[u16], &mut [u32]) -> Answer;
 type Page = fn(&[u8], &[u16], u32, u32, &mut [u32], &mut [u16]) -> Answer;
+type Begin = fn(&mut Chart, &mut u64) -> Answer;
+type Add = fn(&[u8], &mut Chart, &mut u64, u16) -> Answer;
+type TakeBack = fn(&mut Chart, &mut u64) -> Answer;
+
+/// The chart of a session, which is lent beside its count of events.
+pub type Chart = [u64; CHART_WORDS];
 
 pub struct Side {
     pub test: Test,
@@ -27,6 +34,9 @@ pub struct Side {
     pub check: Check,
     pub number: Number,
     pub page: Page,
+    pub begin: Begin,
+    pub add: Add,
+    pub take_back: TakeBack,
 }
 
 pub const SECOND: Side = Side {
@@ -62,7 +72,34 @@ pub const SECOND: Side = Side {
         let paged = services::page(image, events, k, m, table, room);
         answer(paged.number, paged.rule, [paged.written.into(), 0, 0])
     },
+    begin: |chart, count| {
+        hand_back(session::begin(), chart, count);
+        answer(0, 0, [0; 3])
+    },
+    add: |image, chart, count, event| {
+        let (session, added) = session::add(image, held(chart, count), event);
+        hand_back(session, chart, count);
+        let rest = [added.admitted.into(), added.firings, 0];
+        answer(added.number, added.rule, rest)
+    },
+    take_back: |chart, count| {
+        let (session, number) = session::take_back(held(chart, count));
+        hand_back(session, chart, count);
+        answer(number, 0, [0; 3])
+    },
 };
+
+/// The session that is lent in its two parts.
+fn held(chart: &Chart, count: &u64) -> Session {
+    Session {
+        chart: *chart,
+        count: *count,
+    }
+}
+
+fn hand_back(session: Session, chart: &mut Chart, count: &mut u64) {
+    (*chart, *count) = (session.chart, session.count);
+}
 
 pub fn answer(number: u8, rule: u16, rest: [u64; 3]) -> Answer {
     Answer { number, rule, rest }
