@@ -1,5 +1,5 @@
 //! What the services answer, on either side. Number 0 is success; an answer that is made from a
-//! refusal has zeros elsewhere. `reading` answers with the refusal alone.
+//! refusal has zeros elsewhere. `reading` and a take-back answer with the refusal alone.
 
 /// A refusal's number, or 0, and the rule at fault: that of 6 and 7, with every other number 0.
 #[derive(Clone, Copy, Debug, Default, PartialEq)]
@@ -13,6 +13,15 @@ pub struct Judged {
     pub refusal: Refusal,
     pub admitted: bool,
     pub items: u64,
+    pub firings: u64,
+}
+
+#[derive(Debug, Default, PartialEq)]
+pub struct Added {
+    pub refusal: Refusal,
+    /// The verdict so far.
+    pub admitted: bool,
+    /// Those of the new column.
     pub firings: u64,
 }
 
@@ -53,6 +62,15 @@ impl From<Refusal> for Judged {
         Judged {
             refusal,
             ..Judged::default()
+        }
+    }
+}
+
+impl From<Refusal> for Added {
+    fn from(refusal: Refusal) -> Self {
+        Added {
+            refusal,
+            ..Added::default()
         }
     }
 }

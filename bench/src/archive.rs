@@ -1,8 +1,8 @@
 //! The proved services that are measured from more than one archive, called through C functions.
 //!
 //! Every call is sound for the same reason: each pointer goes with the length of the slice that it
-//! came from or points to a local of its type; the proved side stays within them, writes only 0 or
-//! 1 for a bool and keeps none.
+//! came from or points to as many values of its type as the function takes; the proved side stays
+//! within them, writes only 0 or 1 for a bool and keeps none.
 
 /// No refusal names this rule, so that one left unwritten is seen.
 pub const NO_RULE: u16 = u16::MAX;

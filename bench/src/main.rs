@@ -58,7 +58,9 @@ fn main() -> ExitCode {
     let words: Vec<String> = std::env::args().skip(1).collect();
     let words: Vec<&str> = words.iter().map(String::as_str).collect();
     if run(&words).is_none() {
-        eprintln!("arguments: [ROUNDS] [--only judge|count|reading|page|number|check | --growth]");
+        eprintln!(
+            "arguments: [ROUNDS] [--only judge|count|reading|page|number|check|session | --growth]"
+        );
         return ExitCode::from(2);
     }
     ExitCode::SUCCESS

@@ -1,8 +1,9 @@
 //! The proved services, called through the C functions of the archive; `archive` says why every
 //! call is sound.
 
-use crate::answers::{Checked, Numbered, Paged, Refusal};
+use crate::answers::{Added, Checked, Numbered, Paged, Refusal};
 use crate::archive::{judge_and_count, NO_RULE};
+use crate::sizes::SessionChart;
 
 judge_and_count!("boundary", "reader_judge", "reader_count");
 
@@ -58,6 +59,21 @@ extern "C" {
         rule: *mut u16,
         yes: *mut bool,
     ) -> u8;
+
+    fn reader_begin(chart: *mut u64, count: *mut u64);
+
+    fn reader_add(
+        image: *const u8,
+        image_len: usize,
+        chart: *mut u64,
+        count: *mut u64,
+        event: u16,
+        rule: *mut u16,
+        admitted: *mut bool,
+        firings: *mut u64,
+    ) -> u8;
+
+    fn reader_take_back(chart: *mut u64, count: *mut u64) -> u8;
 }
 
 pub fn reading(
@@ -166,4 +182,38 @@ pub fn check(image: &[u8], events: &[u16], script: &[u16]) -> Checked {
         refusal: Refusal { number, rule },
         yes,
     }
+}
+
+pub fn begin(chart: &mut SessionChart, count: &mut u64) {
+    // SAFETY: as said of every call.
+    unsafe { reader_begin(chart.as_mut_ptr(), count) }
+}
+
+pub fn add(image: &[u8], chart: &mut SessionChart, count: &mut u64, event: u16) -> Added {
+    let mut rule = NO_RULE;
+    // As for `judge`.
+    let (mut admitted, mut firings) = (true, u64::MAX);
+    // SAFETY: as said of every call.
+    let number = unsafe {
+        reader_add(
+            image.as_ptr(),
+            image.len(),
+            chart.as_mut_ptr(),
+            count,
+            event,
+            &mut rule,
+            &mut admitted,
+            &mut firings,
+        )
+    };
+    Added {
+        refusal: Refusal { number, rule },
+        admitted,
+        firings,
+    }
+}
+
+pub fn take_back(chart: &mut SessionChart, count: &mut u64) -> Refusal {
+    // SAFETY: as said of every call.
+    unsafe { reader_take_back(chart.as_mut_ptr(), count) }.into()
 }

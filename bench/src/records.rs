@@ -1,8 +1,8 @@
-//! What the services are called with: images, the events that are read by them, and scripts.
+//! What the services are called with: images, the events that are read by them, scripts and
+//! sessions.
 
 use crate::grammars::{
-    self, among_first, any_half, chain, cyclic, flagged, largest, mixed, one_each_round, stop,
-    two_chains,
+    self, among_first, any_half, chain, cyclic, flagged, largest, one_each_round, stop, two_chains,
 };
 use crate::plain;
 use crate::random::Random;
@@ -22,6 +22,17 @@ pub struct Input {
     /// The scripts that a page is to have.
     pub m: u32,
     pub script: Vec<u16>,
+    pub session: Session,
+}
+
+/// A session as it is handed in.
+#[derive(Clone, Default)]
+pub struct Session {
+    pub count: u64,
+    /// The words of its columns.
+    pub chart: Vec<u64>,
+    /// The firings of its columns, where it grew by adds.
+    pub firings: u64,
 }
 
 /// Numbers of words, of each kind of memory that a caller lends.
@@ -41,6 +52,7 @@ impl Input {
             k: 0,
             m: 1,
             script: Vec::new(),
+            session: Session::default(),
         }
     }
 
@@ -60,6 +72,25 @@ impl Input {
         let read = plain::reading(&self.image, &self.events, k, &mut table, &mut script);
         assert_eq!(read.number, 0, "{}: reading {k}", self.title());
         Input { k, script, ..self }
+    }
+
+    /// With a session of any count and words.
+    pub fn with_session(self, count: u64, chart: Vec<u64>) -> Self {
+        let session = Session {
+            count,
+            chart,
+            firings: 0,
+        };
+        Input { session, ..self }
+    }
+
+    /// With the session of its first events, from the plain side's fresh judgement of them.
+    pub fn with_session_of(self, events: usize) -> Self {
+        let mut chart = vec![0; cells(events)];
+        let judged = plain::judge(&self.image, &self.events[..events], &mut chart);
+        let mut input = self.with_session(events as u64, chart);
+        input.session.firings = judged.firings;
+        input
     }
 
     /// With another rule at the script's last leaf: everything before it is right.
@@ -197,7 +228,14 @@ pub fn stops() -> Input {
     let script = [
         3, 3, 5, 1, 0, 1, 6, 2, 1, 2, 2, 3, 4, 4, 0, 4, 6, 5, 1, 5, 2, 6,
     ];
-    Input::new("STOP", stop(), &[1, 2, 3, 1, 2, 3]).with_script(&script)
+    stops_to(6).with_script(&script)
+}
+
+/// Stops without a gap up to the last event; the first may lack its beginning.
+pub fn stops_to(events: usize) -> Input {
+    let lacking = (3 - events % 3) % 3;
+    let stops = [1, 2, 3].into_iter().cycle().skip(lacking);
+    Input::new("STOP", stop(), &stops.take(events).collect::<Vec<_>>())
 }
 
 /// Other readings that were worked out by hand: numbers and scripts.
@@ -206,7 +244,7 @@ pub fn readings() -> [Input; 5] {
         (sevens(1), 0, &[0, 1]),
         (sevens(3), 0, &[1, 1, 0, 1, 1, 2, 0, 2, 0, 3]),
         (sevens(3), 1, &[1, 2, 1, 1, 0, 1, 0, 2, 0, 3]),
-        (one_stop(), 0, &[4, 1, 0, 1, 6, 2, 1, 2, 2, 3]),
+        (stops_to(3), 0, &[4, 1, 0, 1, 6, 2, 1, 2, 2, 3]),
         (quiet(1), 0, &[]),
     ];
     readings.map(|(input, k, script)| Input { k, ..input }.with_script(script))
@@ -233,14 +271,10 @@ pub fn not_readings() -> [Input; 16] {
         (sevens(3), &[2, 1, 0, 1, 1, 2, 0, 2, 0, 3]),
         (sevens(3), &[u16::MAX; 10]),
         // A stop that is no day, and an event that is not the rule's.
-        (one_stop(), &[5, 1, 0, 1, 6, 2, 1, 2, 2, 3]),
-        (one_stop(), &[4, 1, 0, 1, 6, 2, 1, 2, 1, 3]),
+        (stops_to(3), &[5, 1, 0, 1, 6, 2, 1, 2, 2, 3]),
+        (stops_to(3), &[4, 1, 0, 1, 6, 2, 1, 2, 1, 3]),
     ];
     scripts.map(|(input, script)| input.with_script(script))
-}
-
-fn one_stop() -> Input {
-    Input::new("STOP", stop(), &[1, 2, 3])
 }
 
 /// The records `half`, which is the generator's first that fills the chart about half, and `mixed`.
@@ -248,8 +282,7 @@ fn one_stop() -> Input {
 pub fn drawn(events: usize) -> [Input; 2] {
     let [first, _] = LENGTHS;
     let mut random = Random::new(1);
-    let image = mixed(&mut random);
-    let mixed = Input::new("mixed", image, &any_events(&mut random, first));
+    let mixed = draw_mixed(&mut random, first);
     let half = loop {
         let image = any_half(&mut random);
         let half = Input::new("half", image, &any_events(&mut random, first));
@@ -264,6 +297,16 @@ pub fn drawn(events: usize) -> [Input; 2] {
     });
     assert!(about_half(&records[0]), "half of {events} events");
     records
+}
+
+/// The first events of the record `mixed`.
+pub fn mixed(events: usize) -> Input {
+    draw_mixed(&mut Random::new(1), events)
+}
+
+fn draw_mixed(random: &mut Random, events: usize) -> Input {
+    let image = grammars::mixed(random);
+    Input::new("mixed", image, &any_events(random, events))
 }
 
 fn about_half(input: &Input) -> bool {

@@ -6,8 +6,14 @@ pub const MOST_EVENTS: usize = 96;
 /// A count that is at least this is reported as this.
 pub const LIMIT: u64 = u32::MAX as u64;
 
+/// A session takes no more events than this.
+pub const SESSION_EVENTS: usize = 32;
+
+/// The chart that a session carries.
+pub type SessionChart = [u64; cells(SESSION_EVENTS)];
+
 /// The cells of a number of events.
-pub fn cells(events: usize) -> usize {
+pub const fn cells(events: usize) -> usize {
     events * (events + 1) / 2
 }
 

@@ -92,7 +92,7 @@ where
     F: Fn(&Input, &mut Lent) -> A,
 {
     let input = &case.input;
-    let mut lent = Lent::new(case.room);
+    let mut lent = case.lent();
     let enough = |(_, side): &Side<F>| calls_for(side, input, &mut lent);
     let calls: Vec<_> = sides.iter().map(enough).collect();
     let mut of_side = |((_, side), &calls): (&Side<F>, &u32)| {
@@ -117,26 +117,30 @@ pub fn explain(rounds: usize) {
         "afresh and stepping are plain Rust, a page by each number anew and from reading to reading; \
          singly is our reading, called for each"
     );
+    println!(
+        "of a session: judge is our fresh judgement of the events with the one added; \
+         each is a fresh one after each event, once is one of all events"
+    );
     println!("steps are the splits of all stretches, for check the events");
 }
 
 pub fn print_head() {
     let (time, ratio) = ("microseconds", "ours / this side");
-    println!("case                        full  side     {time:^36} {ratio:^24}");
+    println!("case                        full  side           {time:^36} {ratio:^24}");
 }
 
 /// A line for each side.
 pub fn print_times(names: &[&str], times: &Times) {
     let full = times.input.fullness();
     println!(
-        "{:25} {full:5.1}%  {:8} {:10}",
+        "{:25} {full:5.1}%  {:14} {:10}",
         times.input.title(),
         names[0],
         times.of(0)
     );
     for (side, name) in names.iter().enumerate().skip(1) {
         let (time, ratio) = (times.of(side), times.ratio(side));
-        println!("{:34}{name:8} {time:10} {ratio:6}", "");
+        println!("{:34}{name:14} {time:10} {ratio:6}", "");
     }
 }
 

@@ -11,6 +11,7 @@ mod judge_skipping;
 mod number;
 mod page;
 mod reading;
+mod session;
 
 pub use check::check;
 pub use count::count;
@@ -20,6 +21,7 @@ pub use judge_skipping::judge_skipping;
 pub use number::number;
 pub use page::{page_afresh, page_stepping};
 pub use reading::reading;
+pub use session::{add, add_skipping, begin, take_back};
 
 use crate::answers::Refusal;
 use crate::sizes::MOST_EVENTS;

@@ -10,7 +10,7 @@ use crate::records::{self, Input, Words, LENGTHS};
 use crate::sizes::{cells, splits};
 use crate::{ours, plain};
 
-type Judge = fn(&[u8], &[u16], &mut [u64]) -> Judged;
+pub type Judge = fn(&[u8], &[u16], &mut [u64]) -> Judged;
 
 /// In the order of every table.
 const SIDES: &[Side<Judge>] = &[
@@ -41,7 +41,7 @@ type Told = (bool, u64, u64);
 fn even(events: usize, symbols: usize, pairs: usize) -> Told {
     let items = symbols * cells(events);
     let firings = symbols * events + pairs * splits(events);
-    (true, items as u64, firings as u64)
+    (events > 0, items as u64, firings as u64)
 }
 
 fn timed() -> Vec<Case<Judged>> {
@@ -63,7 +63,7 @@ fn long(events: usize) -> Vec<Case<Judged>> {
         full(events),
         judged(records::skewed(events), even(events, 64, 256)),
         judged(half, (own.admitted, own.items, own.firings)),
-        judged(mixed, even(events, 48, 112)),
+        of_mixed(mixed),
         fifteen(events),
         five(events),
         nearly_empty(events),
@@ -72,6 +72,30 @@ fn long(events: usize) -> Vec<Case<Judged>> {
 
 pub fn full(events: usize) -> Case<Judged> {
     judged(records::full(events), even(events, 64, 256))
+}
+
+/// One symbol of each of 16 pairs and 32 others, and one rule of four for each pair and of two for the
+/// others.
+fn of_mixed(input: Input) -> Case<Judged> {
+    let told = even(input.events.len(), 48, 112);
+    judged(input, told)
+}
+
+pub fn mixed(events: usize) -> Case<Judged> {
+    of_mixed(records::mixed(events))
+}
+
+pub fn sevens(events: usize) -> Case<Judged> {
+    judged(records::sevens(events), even(events, 1, 1))
+}
+
+/// Every event, tail and stop, and every row of stops as a day. All are read in one way: there are as
+/// many firings.
+pub fn stops(events: usize) -> Case<Judged> {
+    let (tails, stops) = ((events + 1) / 3, events / 3);
+    let items = (events + tails + stops + cells(stops)) as u64;
+    let admitted = stops > 0 && 3 * stops == events;
+    judged(records::stops_to(events), (admitted, items, items))
 }
 
 /// Rules t and t + d of a symbol are equal where the number of symbols divides 13 d and 29 d, and so d:
@@ -98,10 +122,12 @@ fn one_of_each(input: Input, classes: usize) -> Case<Judged> {
     judged(input, (false, items, firings))
 }
 
-/// In sixteen events 64 symbols each: two leaves by one rule and a stretch of two by four rules.
+/// In sixteen events 64 symbols each: two leaves by one rule, and with the second a stretch of two by
+/// four rules.
 pub fn nearly_empty(events: usize) -> Case<Judged> {
-    let sixteens = events.div_ceil(16) as u64;
-    let few = (false, sixteens * 64 * (2 + 1), sixteens * 64 * (2 + 4));
+    let (first, second) = (events.div_ceil(16), (events + 14) / 16);
+    let (leaves, twos) = (64 * (first + second) as u64, 64 * second as u64);
+    let few = ((1..=2).contains(&events), leaves + twos, leaves + 4 * twos);
     judged(records::nearly_empty(events), few)
 }
 

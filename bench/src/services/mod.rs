@@ -7,6 +7,7 @@ pub mod judge;
 pub mod number;
 pub mod page;
 pub mod reading;
+pub mod session;
 
 use crate::case::{verify, Case, Lent, Side};
 use crate::records::Input;
@@ -16,13 +17,14 @@ use std::fmt::Debug;
 /// A name, and what compares the sides of the service and then times them in a number of rounds.
 pub type Service = (&'static str, fn(usize));
 
-pub const ALL: [Service; 6] = [
+pub const ALL: [Service; 7] = [
     ("judge", judge::run),
     ("count", count::run),
     ("reading", reading::run),
     ("page", page::run),
     ("number", number::run),
     ("check", check::run),
+    ("session", session::run),
 ];
 
 /// The sides of a service, each called in the way that `call` gives for it.
