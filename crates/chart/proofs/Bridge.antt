@@ -21,7 +21,7 @@ use Rattle.derivation.proofs.Counts.{known-one, known-more}
 use Rattle.derivation.proofs.Cells.{cell-ones, known-high}
 use Rattle.derivation.proofs.Columns.{sum-cells}
 use Rattle.kernel.specs.Fire.{hit, hits, conclusions, leafConclusions}
-use Rattle.chart.specs.Fill.{rd, cellHits, cellConclusions, columnHits, Columns, onesTo}
+use Rattle.columns.specs.Fill.{rd, cellHits, cellConclusions, columnHits, Columns, onesTo}
 
 module _ (g : Grammar) (w c₀ c : List ℕ) (m : ℕ) (whole : Columns g w c₀ c (length w) m) where
   Shown : ℕ → ℕ → Type 0

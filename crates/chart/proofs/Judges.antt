@@ -29,7 +29,7 @@ use Rattle.image.specs.Image.{Names}
 use Rattle.image.proofs.Refusals.{first-only}
 use Rattle.image.proofs.Named.{names-same, names-before}
 use Rattle.chart.specs.declared.Judged.{Judged}
-use Rattle.chart.specs.Fill.{Columns, onesTo, TopHas}
+use Rattle.columns.specs.Fill.{Columns, onesTo, TopHas}
 use Rattle.chart.specs.Judge.{judgeRows, Shows, Answered, JudgeIs}
 use Rattle.chart.proofs.Bridge.{chart-shows, firings-are, items-are}
 

@@ -1,5 +1,4 @@
 // Judges a record: fills the chart of a grammar image over events, column by column, and answers verdict, items and firings.
-pub mod fill; // cells and columns
 
 ghost use mathlib.Core.Path.{_≡_};
 ghost use mathlib.Core.Bool.{false};
@@ -7,7 +6,7 @@ ghost use Prim.Native.Nat.{_≤_, _<_, _^_};
 ghost use lib.ListN.{length};
 ghost use Rattle.derivation.specs.Chart.{cells};
 ghost use Rattle.layout.specs.Layout.{headerBytes, decode};
-ghost use Rattle.chart.specs.Fill.{onesTo, TopHas};
+ghost use Rattle.columns.specs.Fill.{onesTo, TopHas};
 ghost use Rattle.chart.specs.Judge.{JudgeIs};
 
 // What judging answers: a refusal with zeros, or 0 with the verdict, the items and the firings. The rule is that of 6 and 7, else 0.
@@ -52,7 +51,7 @@ pub fn top_has(image: &[u8], chart: &[u64], n: usize) -> bool
     if n == 0 {
         return layout::quiet_flag(image) == 1;
     }
-    let top = fill::read_cell(chart, 0, n);
+    let top = columns::read_cell(chart, 0, n);
     bits::bit_of(top, 0) == 1
 }
 
@@ -70,7 +69,7 @@ pub fn judge(image: &[u8], events: &[u16], chart: &mut [u64]) -> Judged
     if chart.len() < need {
         return refused(9, 0);
     }
-    let firings = fill::fill_chart(image, events, chart);
+    let firings = columns::fill_chart(image, events, chart);
     let admitted = top_has(image, chart, n);
     let items = items_of(chart, need);
     Judged {

@@ -1,4 +1,4 @@
 // Lists the readings of the event file by the grammar file, which are its first two arguments.
 fn main() {
-    shell::run();
+    shell::run_at(1);
 }

@@ -22,8 +22,8 @@ use Rattle.image.specs.Image.{imageRows, Names, Accepted}
 use Rattle.image.proofs.Refusals.{first-only, all-hold, reached, passed}
 use Rattle.image.proofs.Images.{accepted}
 use Rattle.image.proofs.Named.{names-same, names-before}
-use Rattle.chart.specs.Fill.{rd}
-use Rattle.chart.proofs.OneColumn.{column-only}
+use Rattle.columns.specs.Fill.{rd}
+use Rattle.columns.proofs.OneColumn.{column-only}
 use Rattle.session.specs.declared.Session.{Session}
 use Rattle.session.specs.declared.Added.{Added}
 use Rattle.session.specs.Session.{mostAdded, sessionWords, countRows, addRows, AddAnswered, AddIs}

@@ -10,8 +10,8 @@ use Rattle.derivation.specs.Grammar.{Grammar}
 use Rattle.derivation.specs.Sound.{Sound}
 use Rattle.derivation.proofs.Columns.{column-mono}
 use Rattle.layout.specs.Layout.{decode}
-use Rattle.chart.specs.Fill.{rd, ColumnFilled}
-use Rattle.chart.proofs.OneColumn.{symbols-decide, symbols-fire, no-other-symbol}
+use Rattle.columns.specs.Fill.{rd, ColumnFilled}
+use Rattle.columns.proofs.OneColumn.{symbols-decide, symbols-fire, no-other-symbol}
 use Rattle.session.specs.declared.Session.{Session}
 use Rattle.session.specs.declared.Added.{Added}
 use Rattle.session.specs.Session.{AddAnswered, AddIs}

@@ -19,9 +19,9 @@ use Rattle.image.specs.Image.{imageRows, eventRows, Accepted}
 use Rattle.image.proofs.Refusals.{none, pass, first-only, past-zero}
 use Rattle.image.proofs.Images.{accepted-back}
 use Rattle.chart.specs.declared.Judged.{Judged}
-use Rattle.chart.specs.Fill.{ColumnFilled, Columns, onesTo, TopHas}
+use Rattle.columns.specs.Fill.{ColumnFilled, Columns, onesTo, TopHas}
 use Rattle.chart.specs.Judge.{chartRows, Answered, JudgeIs}
-use Rattle.chart.proofs.Fills.{columns-start, columns-along, columns-step}
+use Rattle.columns.proofs.Fills.{columns-start, columns-along, columns-step}
 use Rattle.chart.proofs.Judges.{answer, shows-only, chart-only}
 use Rattle.session.specs.declared.Session.{Session}
 use Rattle.session.specs.declared.Added.{Added}

@@ -14,7 +14,7 @@ use Rattle.derivation.specs.Chart.{cellAt}
 use Rattle.layout.specs.Layout.{decode}
 use Rattle.image.specs.Refusal.{Row, _unless_, First}
 use Rattle.image.specs.Image.{imageRows, Names}
-use Rattle.chart.specs.Fill.{rd, ColumnFilled}
+use Rattle.columns.specs.Fill.{rd, ColumnFilled}
 use Rattle.session.specs.declared.Session.{Session}
 use Rattle.session.specs.declared.Added.{Added}
 use Rattle.session.specs.declared.TakenBack.{TakenBack}

@@ -68,7 +68,7 @@ pub fn add(image: &[u8], session: Session, event: u16) -> Added
     let mut words = session.chart;
     let q = count as usize;
     let k = q + 1;
-    let firings = chart::fill::fill_one(image, event as usize, &mut words, q);
+    let firings = columns::fill_one(image, event as usize, &mut words, q);
     let admitted = chart::top_has(image, &words, k);
     Added {
         session: Session {
@@ -105,7 +105,7 @@ pub fn take_back(session: Session) -> TakenBack
     let mut words = session.chart;
     let k = count as usize;
     let first = derivation::cell_at(0, k);
-    chart::fill::clear_cells(&mut words, first, k);
+    columns::clear_cells(&mut words, first, k);
     let left = count - 1;
     TakenBack {
         session: Session {

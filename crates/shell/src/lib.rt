@@ -106,11 +106,13 @@ pub fn list(image_path: &[u8], event_path: &[u8]) {
     libc::close(image_fd);
 }
 
-// The program on its first two arguments. A missing one leaves its path empty, and no file has an empty name.
-pub fn run() {
+// The program on arguments i and i + 1. A missing one leaves its path empty, and no file has an empty name.
+pub fn run_at(i: usize)
+    requires { ⌜ i < 1024 ⌝ }
+{
     let mut grammar = io::buffer();
-    let n = os::arg(1, &mut grammar);
+    let n = os::arg(i, &mut grammar);
     let mut events = io::buffer();
-    let m = os::arg(2, &mut events);
+    let m = os::arg(i + 1, &mut events);
     list(&grammar[..n], &events[..m]);
 }

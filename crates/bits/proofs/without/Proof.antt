@@ -18,7 +18,7 @@ shl-result : tie.Need-shl-result
 shl-result c = search needs
 
 sub-result : tie.Need-sub-result
-sub-result c = rw (power (c .args .a) (c .pre .0)) (power-within (c .args .word) (c .args .a) (c .fits .word .fits) (c .pre .1))
+sub-result c = omega (arith, power (c .args .a) (c .pre .0), power-within (c .args .word) (c .args .a) (c .fits .word .fits) (c .pre .1))
 
 returns : tie.Need-returns
 returns c = rw (power (c .args .a) (c .pre .0)) (without-is (c .args .word) (c .args .a) (c .fits .word .fits) (c .pre .1))

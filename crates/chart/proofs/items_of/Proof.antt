@@ -3,8 +3,8 @@
 use mathlib.Core.Path.{_≡_, refl}
 use Prim.Native.Nat.{_-_, _*_, _≤_}
 use Rattle.bits.specs.Sum.{sum}
-use Rattle.chart.specs.Fill.{onesTo}
-use Rattle.chart.proofs.Fills.{ones-more}
+use Rattle.columns.specs.Fill.{onesTo}
+use Rattle.columns.proofs.Fills.{ones-more}
 use borrow.Author.Needs.{needs}
 use native.Mathlib.Omega.{arith}
 use Rattle.chart.proofs.items_of.Statement.{statement}

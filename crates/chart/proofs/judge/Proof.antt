@@ -10,7 +10,7 @@ use Rattle.image.specs.Image.{recordRows}
 use Rattle.image.proofs.Refusals.{none, fail, pass}
 use Rattle.image.proofs.Named.{names-behind}
 use Rattle.image.proofs.Images.{record-accepted, refused-first, accepted-first}
-use Rattle.chart.specs.Fill.{onesTo}
+use Rattle.columns.specs.Fill.{onesTo}
 use Rattle.chart.specs.Judge.{chartRows}
 use Rattle.chart.proofs.Judges.{refusal, success, answer}
 use Rattle.chart.proofs.judge.Statement.{statement}

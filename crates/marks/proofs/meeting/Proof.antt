@@ -1,6 +1,6 @@
 -- The ones of both halves.
 -- Assumes nothing.
-use mathlib.Core.Path.{ap₂, _∙_}
+use mathlib.Core.Path.{_≡_, ap₂, _∙_}
 use Prim.Native.Nat.{_+_}
 use native.Mathlib.Omega.{arith}
 use borrow.Author.Needs.{needs}
@@ -22,7 +22,7 @@ cast-result c = search needs
 
 returns : tie.Need-returns
 returns c =
-    let z = c .before .if1 .taken in
+    let z : c .before .before .common2 .result ≡ 0 = c .before .if1 .taken in
     (c .ones .ensures .0 ∙ low-meeting-is _ _ _ _ _ _ (c .before .before .before .common .ensures) (rw z at (c .before .before .common2 .ensures)), omega (arith, c .ones .ensures .1))
 
 ones-requires-2 : tie.Need-ones-requires-2

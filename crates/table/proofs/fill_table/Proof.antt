@@ -2,6 +2,7 @@
 -- Assumes nothing.
 use Rattle.marks.proofs.Shows.{lefts-start}
 use borrow.Author.Needs.{needs}
+use native.Mathlib.Omega.{arith}
 use Rattle.table.proofs.fill_table.Statement.{statement}
 use Rattle.table.proofs.fill_table.Tie as tie
 
@@ -27,7 +28,7 @@ slice-aggregate-fill-columns-2 : tie.Need-slice-aggregate-fill-columns-2
 slice-aggregate-fill-columns-2 c = search needs
 
 fill-columns-requires-2 : tie.Need-fill-columns-requires-2
-fill-columns-requires-2 c κs = search needs
+fill-columns-requires-2 c κs = let p = c .before .before .before .before .before .before .before .before .pre in (p .0, (p .1, λ there. absurd (omega (arith, there))))
 
 same-length-2 : tie.Need-same-length-2
 same-length-2 c = search needs

@@ -50,18 +50,20 @@ mul-need c =
 returns-2 : tie.Need-returns-2
 returns-2 c =
     let s = c .before .before .before .before .before in
+    let short : s .args .space < s .args .m * c .before .script-words .result = c .if2 .taken in
     record {
       number = past-zero (early s) (room s) (omega arith) _ (c .before .before .if1 .left) (c .before .before .before .count-refusal .ensures .number)
-          (fail (λ h. omega (arith, h, c .if2 .taken, rw (c .before .script-words .ensures) at (c .if2 .taken))));
+          (fail (λ h. omega (arith, h, rw (c .before .script-words .ensures) at short)));
       rule = names-behind (omega arith) refl;
     }
 
 returns-3 : tie.Need-returns-3
 returns-3 c =
     let s = c .before .before .before .before .before in
+    let enough : s .args .m * c .before .script-words .result ≤ s .args .space = c .if2 .left in
     record {
       number = past-zero (early s) (room s) (omega arith) _ (c .before .before .if1 .left) (c .before .before .before .count-refusal .ensures .number)
-          (pass (rw (c .before .script-words .ensures) at (c .if2 .left)) none);
+          (pass (rw (c .before .script-words .ensures) at enough) none);
       rule = names-before (omega arith) refl;
     }
 

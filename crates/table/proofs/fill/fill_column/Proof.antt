@@ -19,7 +19,7 @@ same-length-2 : tie.Need-same-length-2
 same-length-2 c = search needs
 
 returns : tie.Need-returns
-returns c = search needs
+returns c = let f = c .before .before .before .before .before .fill-cells .ensures in (f .0, f .1, λ there. f .2 there .0)
 
 slice-aggregate-fill-cells-2 : tie.Need-slice-aggregate-fill-cells-2
 slice-aggregate-fill-cells-2 c = search needs

@@ -1,0 +1,4 @@
+pub mod Fills
+pub mod OneColumn
+pub mod Pushes
+pub mod Shows

@@ -1,4 +1,0 @@
-// The program with no argument.
-fn main() {
-    shell::run();
-}

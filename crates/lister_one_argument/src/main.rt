@@ -1,4 +1,0 @@
-// The program with one argument.
-fn main() {
-    shell::run();
-}
