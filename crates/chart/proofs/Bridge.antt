@@ -8,7 +8,6 @@ use Prim.Native.Nat.{ℕ, zero, suc, _+_, _-_, _*_, _≤_, _<_, min}
 use native.Mathlib.Nat.{eq-or-lt-of-le}
 use native.Mathlib.Omega.{arith}
 use lib.ListN.{length, getD}
-use lib.Count.{ones}
 use Rattle.bits.specs.Truth.{same}
 use Rattle.bits.specs.Sum.{sum}
 use Rattle.bits.specs.Bit.{bit}
@@ -16,19 +15,19 @@ use Rattle.bits.proofs.Sums.{sum-cong, sum-skip, between-cong}
 use Rattle.derivation.specs.Grammar.{Grammar, pairCount, pairRule}
 use Rattle.derivation.specs.Sound.{Sound}
 use Rattle.derivation.specs.Derivations.{known}
-use Rattle.derivation.specs.Chart.{cells, cell, items, eventFirings, pairFirings, columnFirings, firings}
+use Rattle.derivation.specs.Chart.{cells, items, eventFirings, pairFirings, cellFirings, columnFirings, firings}
 use Rattle.derivation.proofs.Counts.{known-one, known-more}
-use Rattle.derivation.proofs.Cells.{cell-ones, known-high}
+use Rattle.derivation.proofs.Cells.{known-high}
 use Rattle.derivation.proofs.Columns.{sum-cells}
-use Rattle.kernel.specs.Fire.{hit, hits, conclusions, leafConclusions}
-use Rattle.columns.specs.Fill.{rd, cellHits, cellConclusions, columnHits, Columns, onesTo}
+use Rattle.kernel.specs.Fire.{hit, conclusions, leafConclusions}
+use Rattle.columns.specs.Fill.{rd, inChart, cellConclusions, Columns, onesTo}
 
 module _ (g : Grammar) (w c₀ c : List ℕ) (m : ℕ) (whole : Columns g w c₀ c (length w) m) where
   Shown : ℕ → ℕ → Type 0
-  Shown i k = (A : ℕ) → bit (rd c i k) A ≡ known g w A i k
+  Shown i k = (A : ℕ) → bit (rd c i k) A ≡ known g w i k A
 
   -- the match of pair rule b over two cells is the product of its two premises
-  hit-shows : (i j k b : ℕ) → Shown i j → Shown j k → hit g (rd c i j) (rd c j k) b ≡ known g w (pairRule g b .left) i j * known g w (pairRule g b .right) j k
+  hit-shows : (i j k b : ℕ) → Shown i j → Shown j k → hit g (rd c i j) (rd c j k) b ≡ known g w i j (pairRule g b .left) * known g w j k (pairRule g b .right)
   unfolding hit Shown
   hit-shows i j k b u v = ap₂ _*_ (u (pairRule g b .left)) (v (pairRule g b .right))
 
@@ -59,34 +58,35 @@ module _ (g : Grammar) (w c₀ c : List ℕ) (m : ℕ) (whole : Columns g w c₀
       (eq-or-lt-of-le p)
 
   -- bit A of cell (i, k)
-  pub chart-shows : (A i k : ℕ) → i < k → k ≤ length w → bit (rd c i k) A ≡ known g w A i k
+  pub chart-shows : (A i k : ℕ) → i < k → k ≤ length w → bit (rd c i k) A ≡ known g w i k A
   unfolding Shown
   chart-shows A i k h l = shown k i k (omega arith) h l A
 
-  -- the matches are the firings
-  hits-are : (i j k : ℕ) → i < j → j < k → k ≤ length w → hits g (rd c i j) (rd c j k) ≡ pairFirings g w i j k
-  unfolding hits pairFirings
-  hits-are i j k a b l = sum-cong (pairCount g) _ _ (λ r h. hit-shows i j k r (shown k i j (omega arith) a (omega arith)) (shown k j k (omega arith) b l))
+  -- what the words hold are the findings, over all stretches of the record
+  found : (A i k : ℕ) → i < k → k ≤ length w → inChart c i k A ≡ known g w i k A
+  found A i k h l = chart-shows A i k h l
 
-  column-is : (q : ℕ) → q < length w → columnHits g (getD w q 0) c q ≡ columnFirings g w q
-  unfolding columnHits columnFirings cellHits
+  -- so the matches are the firings
+  column-is : (q : ℕ) → q < length w → columnFirings g (getD w q 0) (inChart c) q ≡ columnFirings g (getD w q 0) (known g w) q
+  unfolding columnFirings cellFirings pairFirings
   column-is q h = ap (λ (x : ℕ). eventFirings g (getD w q 0) + x)
-      (sum-cong q _ _ (λ i l. between-cong i (q + 1) _ _ (λ j a b. hits-are i j (q + 1) a b (omega arith))))
+      (sum-cong q _ _ (λ i l. between-cong i (q + 1) _ _ (λ j a b. sum-cong (pairCount g) _ _ (λ r o.
+      ap₂ _*_ (found _ i j a (omega arith)) (found _ j (q + 1) b (omega arith))))))
 
-  pub firings-are : m ≡ firings g w
+  pub firings-are : m ≡ firings g w (known g w)
   unfolding firings
   firings-are = whole .counted ∙ sum-cong (length w) _ _ column-is
 
-  -- the one bits are the items
+  -- and the one bits the items
   module _ (ok : Sound g) where
-    cell-is : (i k : ℕ) → i < k → k ≤ length w → sum 64 (bit (rd c i k)) ≡ ones (cell g w i k)
+    cell-is : (i k : ℕ) → i < k → k ≤ length w → sum 64 (bit (rd c i k)) ≡ sum (g .symbols) (known g w i k)
     cell-is i k h l =
         let n = ok .range .symbols in
         let e : 64 ≡ g .symbols + (64 - g .symbols) = omega arith in
-        sum-cong 64 _ _ (λ A s. chart-shows A i k h l) ∙ ap (λ (n : ℕ). sum n (λ A. known g w A i k)) e
-        ∙ sum-skip (g .symbols) (64 - g .symbols) (λ A. known g w A i k) (λ x s. known-high g w ok i k _ (omega arith)) ∙ sym (cell-ones g w i k)
+        sum-cong 64 _ _ (λ A s. chart-shows A i k h l) ∙ ap (λ (n : ℕ). sum n (known g w i k)) e
+        ∙ sum-skip (g .symbols) (64 - g .symbols) (known g w i k) (λ x s. known-high g w ok i k _ (omega arith))
 
-    pub items-are : onesTo c (cells (length w)) ≡ items g w
+    pub items-are : onesTo c (cells (length w)) ≡ items (g .symbols) (length w) (known g w)
     unfolding onesTo items
     items-are =
         sum-cells (length w) (λ y. sum 64 (bit (getD c y 0)))

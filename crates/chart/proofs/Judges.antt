@@ -16,11 +16,13 @@ use Rattle.bits.proofs.Words.{same-bits}
 use Rattle.derivation.specs.Grammar.{Grammar, pairCount}
 use Rattle.derivation.specs.Sound.{Sound}
 use Rattle.derivation.specs.Reading.{Admitted}
-use Rattle.derivation.specs.Numbering.{Tells}
+use Rattle.derivation.specs.Numbering.{Tells, Telling}
 use Rattle.derivation.specs.Chart.{cellAt, cells, firingsBound}
 use Rattle.derivation.proofs.Readings.{admitted-of, of-admitted, admitted-quiet, quiet-admitted}
 use Rattle.derivation.proofs.Counts.{known-of, of-known}
-use Rattle.derivation.proofs.Numbering.{known-tells, tells-only}
+use Rattle.derivation.specs.Derivations.{known}
+use Rattle.derivation.proofs.Numbering.{known-tells, tells-only, known-telling}
+use Rattle.derivation.proofs.Cells.{items-told, firings-told}
 use Rattle.derivation.proofs.Columns.{cell-of}
 use Rattle.derivation.proofs.Bound.{firings-le}
 use Rattle.layout.specs.Layout.{decode}
@@ -54,8 +56,8 @@ module _ (g : Grammar) (ok : Sound g) (w c₀ c : List ℕ) (m : ℕ) (whole : C
     past = whole .past;
     long = l;
     admitted = verdict (r .admitted) a;
-    items = i ∙ items-are g w c₀ c m whole ok;
-    firings = f ∙ firings-are g w c₀ c m whole;
+    items = λ s t. i ∙ items-are g w c₀ c m whole ok ∙ sym (items-told g w s t);
+    firings = λ s t. f ∙ firings-are g w c₀ c m whole ∙ sym (firings-told g w s t);
     bound = subst⁻¹ (λ (x : ℕ). x ≤ firingsBound (length w) (g .symbols) (pairCount g)) (f ∙ firings-are g w c₀ c m whole) (firings-le g w ok);
   }
 
@@ -110,6 +112,9 @@ module _ (b w c₀ : List ℕ) (r s : Judged) (c d : List ℕ) where
       e : r .number ≡ s .number
       e = first-only (p .number) (q .number)
 
+      told : Telling (decode b) w (known (decode b) w)
+      told = known-telling (decode b) w
+
       f : r .rule ≡ s .rule
       f = names-same e (p .rule) (q .rule)
 
@@ -117,7 +122,8 @@ module _ (b w c₀ : List ℕ) (r s : Judged) (c d : List ℕ) where
       go (yes z) =
           let x = p .answered z in
           let y = q .answered (sym e ∙ z) in (
-            judged-eq r s e f (decides-only (Admitted (decode b) w) (r .admitted) (s .admitted) (x .admitted) (y .admitted)) (x .items ∙ sym (y .items)) (x .firings ∙ sym (y .firings)),
+            judged-eq r s e f (decides-only (Admitted (decode b) w) (r .admitted) (s .admitted) (x .admitted) (y .admitted)) (x .items _ told ∙ sym (y .items _ told))
+                (x .firings _ told ∙ sym (y .firings _ told)),
             chart-only x y,
           )
       go (no z) =

@@ -10,8 +10,8 @@ use Rattle.bits.specs.Truth.{Decides}
 use Rattle.bits.specs.Bit.{bit}
 use Rattle.derivation.specs.Grammar.{Grammar, pairCount}
 use Rattle.derivation.specs.Reading.{Admitted}
-use Rattle.derivation.specs.Numbering.{Tells}
-use Rattle.derivation.specs.Chart.{cellAt, cells, items, firings, firingsBound}
+use Rattle.derivation.specs.Numbering.{Tells, Telling}
+use Rattle.derivation.specs.Chart.{cellAt, cells, Findings, items, firings, firingsBound}
 use Rattle.layout.specs.Layout.{decode}
 use Rattle.image.specs.Refusal.{Row, _unless_, First}
 use Rattle.image.specs.Image.{recordRows, Names}
@@ -35,14 +35,14 @@ pub record Refused (before : List ℕ) (r : Judged) (after : List ℕ) : Type 0 
   pub firings : r .firings ≡ 0
   pub kept : after ≡ before
 
--- success: the chart of g and w, and what is counted in it; words past those needed keep their values
+-- success: the chart of g and w, and what is counted, whatever s tells what is derivable; words past those needed keep their values
 pub record Answered (g : Grammar) (w before : List ℕ) (r : Judged) (after : List ℕ) : Type 0 where
   pub chart : Shows g w after
   pub past : (y : ℕ) → cells (length w) ≤ y → getD after y 0 ≡ getD before y 0
   pub long : length after ≡ length before
   pub admitted : Decides (r .admitted) (Admitted g w)
-  pub items : r .items ≡ items g w
-  pub firings : r .firings ≡ firings g w
+  pub items : (s : Findings) → Telling g w s → r .items ≡ items (g .symbols) (length w) s
+  pub firings : (s : Findings) → Telling g w s → r .firings ≡ firings g w s
   pub bound : r .firings ≤ firingsBound (length w) (g .symbols) (pairCount g)
 
 pub record JudgeIs (b w before : List ℕ) (r : Judged) (after : List ℕ) : Type 0 where

@@ -3,7 +3,7 @@
 use mathlib.Core.Path.{_≡_, refl, sym, ap, ap₂, _∙_, subst}
 use mathlib.Core.Logic.{⊎-elim}
 use mathlib.Core.List.{List}
-use Prim.Native.Nat.{ℕ, suc, _+_, _-_, _≤_, _<_, min, zero-le}
+use Prim.Native.Nat.{ℕ, suc, _+_, _-_, _*_, _≤_, _<_, min, zero-le}
 use native.Mathlib.Nat.{le-refl, eq-or-lt-of-le, le-of-suc-le-suc, sub-zero, zero-add, add-zero}
 use native.Mathlib.Numerals.{add-one}
 use native.Mathlib.Omega.{arith}
@@ -12,12 +12,12 @@ use lib.Seq.{getD-set-same, getD-set-other}
 use Rattle.bits.specs.Sum.{sum}
 use Rattle.bits.specs.Bit.{bit}
 use Rattle.bits.proofs.Sums.{sum-cong, sum-front, sum-more, between-cong}
-use Rattle.derivation.specs.Grammar.{Grammar}
-use Rattle.derivation.specs.Chart.{column, cellAt, eventFirings}
+use Rattle.derivation.specs.Grammar.{Grammar, pairCount, pairRule}
+use Rattle.derivation.specs.Chart.{column, cellAt, eventFirings, pairFirings, cellFirings, columnFirings}
 use Rattle.derivation.proofs.Columns.{column-mono, cells-column, cells-more}
 use Rattle.kernel.specs.declared.Fired.{Fired}
-use Rattle.kernel.specs.Fire.{hits, conclusions, leafConclusions, LeafFired}
-use Rattle.columns.specs.Fill.{rd, cellHits, cellConclusions, CellIs, CellFilled, Column, columnHits, ColumnFilled, Columns, onesTo}
+use Rattle.kernel.specs.Fire.{conclusions, leafConclusions, LeafFired}
+use Rattle.columns.specs.Fill.{rd, inChart, cellConclusions, CellIs, CellFilled, Column, ColumnFilled, Columns, onesTo}
 
 -- ---- one word more
 pub ones-more : (c : List ℕ) (n : ℕ) → onesTo c (n + 1) ≡ onesTo c n + sum 64 (bit (getD c n 0))
@@ -51,9 +51,9 @@ module _ (g : Grammar) where
     unfolding cellConclusions
     conclusions-stay A = between-cong i k _ _ (λ j a b. ap₂ (λ (x y : ℕ). conclusions g x y A) (same-left j a b) (same-right j a b))
 
-    pub hits-stay : cellHits g c i k ≡ cellHits g d i k
-    unfolding cellHits
-    hits-stay = between-cong i k _ _ (λ j a b. ap₂ (hits g) (same-left j a b) (same-right j a b))
+    pub hits-stay : cellFirings g (inChart c) i k ≡ cellFirings g (inChart d) i k
+    unfolding cellFirings pairFirings
+    hits-stay = between-cong i k _ _ (λ j a b. ap₂ (λ (x y : ℕ). sum (pairCount g) (λ r. bit x (pairRule g r .left) * bit y (pairRule g r .right))) (same-left j a b) (same-right j a b))
 
   -- ---- a column, filled from its last cell down to cell i, n its firings so far
   pub record Part (e : ℕ) (c₀ c : List ℕ) (q i n : ℕ) : Type 0 where
@@ -62,7 +62,7 @@ module _ (g : Grammar) where
     pub past : (y : ℕ) → cellAt q (q + 1) < y → getD c y 0 ≡ getD c₀ y 0
     pub leaf : (A : ℕ) → bit (rd c q (q + 1)) A ≡ min 1 (leafConclusions g e A)
     pub inner : (x : ℕ) → i ≤ x → x < q → (A : ℕ) → bit (rd c x (q + 1)) A ≡ min 1 (cellConclusions g c x (q + 1) A)
-    pub counted : n ≡ eventFirings g e + sum (q - i) (λ x. cellHits g c (i + x) (q + 1))
+    pub counted : n ≡ eventFirings g e + sum (q - i) (λ x. cellFirings g (inChart c) (i + x) (q + 1))
 
   pub part-start : (e q at : ℕ) (c : List ℕ) (f : Fired) → at ≡ cellAt q (q + 1) → at < length c → LeafFired g e f
       → Part e (set c at (f .word)) (set c at (f .word)) q q (f .count)
@@ -83,19 +83,19 @@ module _ (g : Grammar) where
     conclusions-kept : (x : ℕ) → j ≤ x → (A : ℕ) → cellConclusions g c x (q + 1) A ≡ cellConclusions g d x (q + 1) A
     conclusions-kept x h = conclusions-stay c d x (q + 1) kept-low (λ y l o. sym (f .other y (λ z. omega arith)))
 
-    hits-kept : (x : ℕ) → j ≤ x → cellHits g c x (q + 1) ≡ cellHits g d x (q + 1)
+    hits-kept : (x : ℕ) → j ≤ x → cellFirings g (inChart c) x (q + 1) ≡ cellFirings g (inChart d) x (q + 1)
     hits-kept x h = hits-stay c d x (q + 1) kept-low (λ y l o. sym (f .other y (λ z. omega arith)))
 
     here : (A : ℕ) → bit (rd d j (q + 1)) A ≡ min 1 (cellConclusions g d j (q + 1) A)
     here A = f .cell .word A ∙ ap (min 1) (conclusions-kept j (le-refl j) A)
 
-    total : sum (q - j) (λ x. cellHits g d (j + x) (q + 1)) ≡ cellHits g c j (q + 1) + sum (q - i) (λ x. cellHits g c (i + x) (q + 1))
+    total : sum (q - j) (λ x. cellFirings g (inChart d) (j + x) (q + 1)) ≡ cellFirings g (inChart c) j (q + 1) + sum (q - i) (λ x. cellFirings g (inChart c) (i + x) (q + 1))
     total =
         let z : q - j ≡ suc (q - i) = omega arith in
-        ap (λ (m : ℕ). sum m (λ x. cellHits g d (j + x) (q + 1))) z ∙ sum-front (q - i) _
+        ap (λ (m : ℕ). sum m (λ x. cellFirings g (inChart d) (j + x) (q + 1))) z ∙ sum-front (q - i) _
         ∙ ap₂ _+_
-        (ap (λ (y : ℕ). cellHits g d y (q + 1)) (add-zero j) ∙ sym (hits-kept j (le-refl j)))
-        (sum-cong (q - i) _ _ (λ x h. ap (λ (y : ℕ). cellHits g d y (q + 1)) (omega arith) ∙ sym (hits-kept (i + x) (omega arith))))
+        (ap (λ (y : ℕ). cellFirings g (inChart d) y (q + 1)) (add-zero j) ∙ sym (hits-kept j (le-refl j)))
+        (sum-cong (q - i) _ _ (λ x h. ap (λ (y : ℕ). cellFirings g (inChart d) y (q + 1)) (omega arith) ∙ sym (hits-kept (i + x) (omega arith))))
 
     pub part-step : Part e c₀ d q j (n + m)
     part-step = record {
@@ -112,14 +112,17 @@ module _ (g : Grammar) where
 
   -- all of it, from the chart before the leaf was stored
   pub part-done : (e q n at w : ℕ) (c₀ c : List ℕ) → at ≡ cellAt q (q + 1) → Part e (set c₀ at w) c q 0 n → ColumnFilled g e c₀ c q n
-  unfolding columnHits
+  unfolding columnFirings
   part-done e q n at w c₀ c a r = record {
     column = record { leaf = r .leaf; inner = λ x h. r .inner x zero-le h };
     counted = r .counted ∙ ap (λ (x : ℕ). eventFirings g e + x)
-        (ap (λ (m : ℕ). sum m (λ x. cellHits g c (0 + x) (q + 1))) (sub-zero q)
-        ∙ sum-cong q _ _ (λ x h. ap (λ (y : ℕ). cellHits g c y (q + 1)) (zero-add x)));
-    low = λ y h. r .low y h ∙ getD-set-other c₀ at y w 0 (λ z. omega arith);
-    past = λ y h. r .past y h ∙ getD-set-other c₀ at y w 0 (λ z. omega arith);
+        (ap (λ (m : ℕ). sum m (λ x. cellFirings g (inChart c) (0 + x) (q + 1))) (sub-zero q)
+        ∙ sum-cong q _ _ (λ x h. ap (λ (y : ℕ). cellFirings g (inChart c) y (q + 1)) (zero-add x)));
+    frame = record {
+      long = r .long ∙ length-set c₀ at w;
+      before = λ y h. r .low y h ∙ getD-set-other c₀ at y w 0 (λ z. omega arith);
+      after = λ y h. r .past y (omega arith) ∙ getD-set-other c₀ at y w 0 (λ z. omega arith);
+    };
   }
 
   -- ---- a column depends on no later word
@@ -131,9 +134,9 @@ module _ (g : Grammar) where
           ∙ ap (min 1) (conclusions-stay c d i (q + 1) (λ y b. agree y (omega arith)) (λ y a b. agree y b) A);
     }
 
-    pub columnHits-stays : columnHits g e c q ≡ columnHits g e d q
-    unfolding columnHits
-    columnHits-stays = ap (λ (x : ℕ). eventFirings g e + x)
+    pub firings-stay : columnFirings g e (inChart c) q ≡ columnFirings g e (inChart d) q
+    unfolding columnFirings
+    firings-stay = ap (λ (x : ℕ). eventFirings g e + x)
         (sum-cong q _ _ (λ i h. hits-stay c d i (q + 1) (λ y b. agree y (omega arith)) (λ y a b. agree y b)))
 
   -- ---- columns one after the other
@@ -145,13 +148,13 @@ module _ (g : Grammar) where
   pub columns-along : (w v c₀ c : List ℕ) (n m : ℕ) → ((q : ℕ) → q < n → getD w q 0 ≡ getD v q 0) → Columns g w c₀ c n m → Columns g v c₀ c n m
   columns-along w v c₀ c n m same r = record {
     column = λ q h. subst (λ (e : ℕ). Column g e c q) (same q h) (r .column q h);
-    counted = r .counted ∙ sum-cong n _ _ (λ q h. ap (λ (e : ℕ). columnHits g e c q) (same q h));
+    counted = r .counted ∙ sum-cong n _ _ (λ q h. ap (λ (e : ℕ). columnFirings g e (inChart c) q) (same q h));
     past = r .past;
   }
 
   module _ (w c₀ c d : List ℕ) (n m x : ℕ) (r : Columns g w c₀ c n m) (f : ColumnFilled g (getD w n 0) c d n x) where
     agrees : (q : ℕ) → q < n → (y : ℕ) → y < column (q + 1) + (q + 1) → getD c y 0 ≡ getD d y 0
-    agrees q o y b = sym (f .low y (omega (arith, column-mono (q + 1) (n + 1) (omega arith))))
+    agrees q o y b = sym (f .frame .before y (omega (arith, column-mono (q + 1) (n + 1) (omega arith))))
 
     pub columns-step : Columns g w c₀ d (n + 1) (m + x)
     columns-step = record {
@@ -160,6 +163,6 @@ module _ (g : Grammar) where
           (λ (o : q < n). column-stays _ q c d (agrees q o) (r .column q o))
           (eq-or-lt-of-le (le-of-suc-le-suc (rw (add-one n) at h)));
       counted = rw sum-more (ap₂ _+_
-          (r .counted ∙ sum-cong n _ _ (λ q o. columnHits-stays _ q c d (agrees q o))) (f .counted));
-      past = λ y h. f .past y (omega (arith, cells-more n, cells-column n)) ∙ r .past y (omega (arith, cells-more n));
+          (r .counted ∙ sum-cong n _ _ (λ q o. firings-stay _ q c d (agrees q o))) (f .counted));
+      past = λ y h. f .frame .after y (omega (arith, cells-more n, cells-column n)) ∙ r .past y (omega (arith, cells-more n));
     }

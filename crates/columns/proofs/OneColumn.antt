@@ -16,11 +16,11 @@ use Rattle.bits.proofs.Truths.{same-other}
 use Rattle.bits.proofs.Words.{same-bits}
 use Rattle.derivation.specs.Grammar.{Grammar, leafCount, pairCount, eventRule, pairRule}
 use Rattle.derivation.specs.Sound.{Sound}
-use Rattle.derivation.specs.Chart.{column, cellAt, eventFirings}
+use Rattle.derivation.specs.Chart.{column, cellAt, eventFirings, pairFirings, cellFirings, columnFirings}
 use Rattle.derivation.proofs.Sound.{leaf-fits, pair-fits-at}
 use Rattle.kernel.specs.Fire.{hit, hits, conclusions, leafConclusions}
-use Rattle.columns.specs.Fill.{rd, cellHits, cellConclusions, Column, columnHits, ColumnFilled}
-use Rattle.columns.proofs.Fills.{conclusions-stay, columnHits-stays}
+use Rattle.columns.specs.Fill.{rd, inChart, cellConclusions, Column, ColumnFilled}
+use Rattle.columns.proofs.Fills.{conclusions-stay, firings-stay}
 
 -- ---- two columns whose cells conclude the same where the cells behind them are the same
 module _ (g : Grammar) (e : ℕ) (c d : List ℕ) (q : ℕ) (p : Column g e c q) (r : Column g e d q)
@@ -43,7 +43,7 @@ module _ (g : Grammar) (e : ℕ) (c d : List ℕ) (q : ℕ) (p : Column g e c q)
 -- ---- over the same words
 module _ (g : Grammar) (e : ℕ) (before c d : List ℕ) (q n m : ℕ) (f : ColumnFilled g e before c q n) (h : ColumnFilled g e before d q m) where
   same-low : (y : ℕ) → y < column (q + 1) → getD c y 0 ≡ getD d y 0
-  same-low y l = f .low y (omega arith) ∙ sym (h .low y (omega arith))
+  same-low y l = f .frame .before y (omega arith) ∙ sym (h .frame .before y (omega arith))
 
   alike : (i : ℕ) → i < q → ((x : ℕ) → i < x → x ≤ q → rd c x (q + 1) ≡ rd d x (q + 1))
       → (A : ℕ) → cellConclusions g c i (q + 1) A ≡ cellConclusions g d i (q + 1) A
@@ -56,11 +56,11 @@ module _ (g : Grammar) (e : ℕ) (before c d : List ℕ) (q n m : ℕ) (f : Colu
 
   every-same : (y : ℕ) → getD c y 0 ≡ getD d y 0
   every-same = around c d (column (q + 1)) (q + 1) same-low (λ x l. cells-same g e c d q (f .column) (h .column) alike x (omega arith))
-      (λ y l. f .past y (omega arith) ∙ sym (h .past y (omega arith)))
+      (λ y l. f .frame .after y (omega arith) ∙ sym (h .frame .after y (omega arith)))
 
   -- every word, and the firings
   pub column-only : ((y : ℕ) → getD c y 0 ≡ getD d y 0) × (n ≡ m)
-  column-only = (every-same, f .counted ∙ columnHits-stays g e q c d (λ y l. every-same y) ∙ sym (h .counted))
+  column-only = (every-same, f .counted ∙ firings-stay g e q c d (λ y l. every-same y) ∙ sym (h .counted))
 
 -- ---- over words that hold the same symbols of the grammar
 module _ (g : Grammar) (ok : Sound g) where
@@ -76,15 +76,15 @@ module _ (g : Grammar) (ok : Sound g) where
       conclusions-alike A = between-cong i (q + 1) _ _ (λ j a o. sum-cong (pairCount g) _ _ (λ b s.
           ap (λ (x : ℕ). x * same (pairRule g b .symbol) A) (hit-alike j a o b s)))
 
-      hits-alike : cellHits g c i (q + 1) ≡ cellHits g d i (q + 1)
-      unfolding cellHits hits
+      hits-alike : cellFirings g (inChart c) i (q + 1) ≡ cellFirings g (inChart d) i (q + 1)
+      unfolding cellFirings pairFirings hit
       hits-alike = between-cong i (q + 1) _ _ (λ j a o. sum-cong (pairCount g) _ _ (λ b s. hit-alike j a o b s))
 
     pub symbols-decide : (x : ℕ) → x ≤ q → rd c x (q + 1) ≡ rd d x (q + 1)
     symbols-decide = cells-same g e c d q p r conclusions-alike
 
-    pub symbols-fire : columnHits g e c q ≡ columnHits g e d q
-    unfolding columnHits
+    pub symbols-fire : columnFirings g e (inChart c) q ≡ columnFirings g e (inChart d) q
+    unfolding columnFirings
     symbols-fire = ap (λ (x : ℕ). eventFirings g e + x) (sum-cong q _ _ (λ i l. hits-alike i l (λ x a o. symbols-decide x o)))
 
   -- no cell of a column has another symbol

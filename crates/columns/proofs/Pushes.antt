@@ -19,14 +19,14 @@ use Rattle.bits.proofs.Frames.{framed-none, framed-set, framed-wider, framed-on
 use Rattle.bits.proofs.Sums.{sum-more, sum-cong, sum-zero, sum-front, sum-split, sum-add, between-none, between-cong, some-join}
 use Rattle.bits.proofs.Truths.{lt-or-ge}
 use Rattle.derivation.specs.Grammar.{Grammar}
-use Rattle.derivation.specs.Chart.{column, cellAt, eventFirings}
+use Rattle.derivation.specs.Chart.{column, cellAt, eventFirings, pairFirings, cellFirings, columnFirings}
 use Rattle.derivation.proofs.Columns.{column-mono}
 use Rattle.kernel.specs.declared.Fired.{Fired}
-use Rattle.kernel.specs.Fire.{hits, conclusions, leafConclusions, Concluded, LeafFired}
+use Rattle.kernel.specs.Fire.{hit, hits, conclusions, leafConclusions, Concluded, LeafFired}
 use Rattle.kernel.specs.Follow.{Ready}
 use Rattle.kernel.proofs.Pairs.{none-right}
 use Rattle.kernel.proofs.Readies.{ready-part}
-use Rattle.columns.specs.Fill.{rd, cellHits, cellConclusions, Standing, Pushed, columnHits, ColumnFilled}
+use Rattle.columns.specs.Fill.{rd, inChart, cellConclusions, Standing, Pushed, ColumnFilled}
 
 -- ---- sums
 first-between : (p k : ℕ) (f : ℕ → ℕ) → p + 1 < k → between p k f ≡ f (p + 1) + between (p + 1) k f
@@ -187,10 +187,9 @@ module _ (g : Grammar) where
 
   -- all of it, from the chart before the column was cleared
   pub late-done : (e q n : ℕ) (c₀ c d : List ℕ) → Framed c₀ c (cellAt 0 (q + 1)) (q + 1) → Late e c d q 0 n → ColumnFilled g e c₀ d q n
-  unfolding columnHits cellConclusions cellHits
+  unfolding columnFirings cellConclusions cellFirings pairFirings hits hit
   late-done e q n c₀ c d f w = record {
     column = record { leaf = w .leaf; inner = λ i l A. rw (max-zero i) at (w .inner i l A) };
     counted = w .counted ∙ ap (λ (x : ℕ). eventFirings g e + x) (sum-cong q _ _ (λ i l. ap (λ (y : ℕ). between y (q + 1) (λ j. hits g (rd d i j) (rd d j (q + 1)))) (max-zero i)));
-    low = λ y l. w .frame .before y l ∙ f .before y l;
-    past = λ y l. w .frame .after y (omega arith) ∙ f .after y (omega arith);
+    frame = framed-on c₀ c d _ _ f (w .frame);
   }

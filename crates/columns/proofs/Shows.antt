@@ -7,7 +7,7 @@ use mathlib.Core.List.{List}
 use Prim.Native.Nat.{ℕ, _+_, _*_, _≤_, _<_, min}
 use native.Mathlib.Nat.{mul-one, mul-zero, zero-mul, add-zero, eq-or-lt-of-le}
 use native.Mathlib.Omega.{arith}
-use lib.ListN.{length, getD, set}
+use lib.ListN.{length, getD, set, length-set}
 use lib.Seq.{getD-set-same, getD-set-other}
 use Rattle.bits.specs.Truth.{same}
 use Rattle.bits.specs.Sum.{sum, between}
@@ -16,14 +16,14 @@ use Rattle.bits.specs.Bit.{bit}
 use Rattle.bits.proofs.Bits.{bit-of-zero}
 use Rattle.bits.proofs.Sums.{sum-cong, sum-zero, between-zero, between-cong, between-swap, between-scale}
 use Rattle.derivation.specs.Grammar.{Grammar, pairCount, pairRule}
-use Rattle.derivation.specs.Chart.{column, cellAt, eventFirings}
+use Rattle.derivation.specs.Chart.{column, cellAt, eventFirings, pairFirings, cellFirings, columnFirings}
 use Rattle.derivation.proofs.Columns.{column-mono}
 use Rattle.marks.specs.Mark.{meetings}
 use Rattle.marks.specs.Shown.{Filled, Lefts, Rights, Shown, CellMarked}
 use Rattle.marks.proofs.Shows.{met-between, shown-step, shown-empty}
 use Rattle.kernel.specs.declared.Fired.{Fired}
 use Rattle.kernel.specs.Fire.{hit, hits, conclusions, met, Met, LeafFired}
-use Rattle.columns.specs.Fill.{rd, inChart, cellHits, cellConclusions, CellIs, columnHits, ColumnFilled}
+use Rattle.columns.specs.Fill.{rd, inChart, cellConclusions, CellIs, ColumnFilled}
 
 -- a cell that is stored changes no other
 pub shown-stored : (c t v u x : List ℕ) (i k at w : ℕ) → i < k → at ≡ cellAt i k → at < length c → CellMarked t v u x i k w
@@ -51,7 +51,7 @@ module _ (g : Grammar) (c t u : List ℕ) (i k : ℕ) (inside : i < k) (rows : L
   met-are b l = meetings-are _ _ (fits b l .0) (fits b l .1)
 
   pub cell-met : (f : Fired) → Met g t i u f → CellIs g c i k f
-  unfolding cellHits cellConclusions hits conclusions
+  unfolding cellFirings pairFirings cellConclusions conclusions hit
   cell-met f m = record {
     word = λ A. m .word A ∙ ap (min 1)
         (sum-cong (pairCount g) _ _ (λ b l. ap (λ (y : ℕ). y * same (pairRule g b .symbol) A) (met-are b l) ∙ sym (between-scale i k _ _))
@@ -75,8 +75,8 @@ module _ (g : Grammar) (e q at : ℕ) (c d : List ℕ) (f : Fired) (is : at ≡ 
   unfolding hit
   no-hit u b = ap (λ (x : ℕ). bit u (pairRule g b .left) * x) (bit-of-zero (pairRule g b .right)) ∙ mul-zero _
 
-  no-hits : (i : ℕ) → cellHits g d i (q + 1) ≡ 0
-  unfolding cellHits hits
+  no-hits : (i : ℕ) → cellFirings g (inChart d) i (q + 1) ≡ 0
+  unfolding cellFirings pairFirings hit
   no-hits i = between-cong i (q + 1) _ (λ j. 0) (λ j a b.
       ap (λ (x : ℕ). sum (pairCount g) (hit g (rd d i j) x)) (empty j (omega arith)) ∙ sum-zero (pairCount g) _ (λ b l. no-hit _ b)) ∙ between-zero i (q + 1)
 
@@ -87,15 +87,18 @@ module _ (g : Grammar) (e q at : ℕ) (c d : List ℕ) (f : Fired) (is : at ≡ 
       ∙ sum-zero (pairCount g) _ (λ b l. ap (λ (x : ℕ). x * same (pairRule g b .symbol) A) (no-hit _ b) ∙ zero-mul _)) ∙ between-zero i (q + 1)
 
   pub column-empty : ColumnFilled g e c d q (f .count)
-  unfolding columnHits
+  unfolding columnFirings
   column-empty = record {
     column = record {
       leaf = λ A. ap (λ (x : ℕ). bit x A) (top ∙ sym none) ∙ leaf .word A;
       inner = λ i l A. ap (λ (x : ℕ). bit x A) (empty i (omega arith)) ∙ bit-of-zero A ∙ ap (min 1) (sym (no-conclusions i A));
     };
     counted = leaf .count ∙ sym (ap (λ (x : ℕ). eventFirings g e + x) (sum-zero q _ (λ i l. no-hits i)) ∙ add-zero _);
-    low = λ y l. frame .before y l ∙ getD-set-other c at y (f .word) 0 (λ z. omega arith);
-    past = λ y l. frame .after y (omega arith) ∙ getD-set-other c at y (f .word) 0 (λ z. omega arith);
+    frame = record {
+      long = frame .long ∙ length-set c at (f .word);
+      before = λ y l. frame .before y l ∙ getD-set-other c at y (f .word) 0 (λ z. omega arith);
+      after = λ y l. frame .after y (omega arith) ∙ getD-set-other c at y (f .word) 0 (λ z. omega arith);
+    };
   }
 
   pub column-shown : (t u : List ℕ) → Shown 64 (inChart (set c at (f .word))) t u q (q + 1) → Shown 64 (inChart d) t u 0 (q + 1)

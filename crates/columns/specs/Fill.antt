@@ -12,7 +12,7 @@ use Rattle.bits.specs.Sum.{sum, between}
 use Rattle.bits.specs.Bit.{bit}
 use Rattle.bits.specs.Frame.{Framed}
 use Rattle.derivation.specs.Grammar.{Grammar}
-use Rattle.derivation.specs.Chart.{cellAt, cells, eventFirings}
+use Rattle.derivation.specs.Chart.{cellAt, cells, Findings, cellFirings, columnFirings}
 use Rattle.kernel.specs.Fire.{hits, conclusions, leafConclusions}
 use Rattle.kernel.specs.declared.Fired.{Fired}
 
@@ -21,21 +21,18 @@ abbrev pub rd : List ℕ → ℕ → ℕ → ℕ
 rd c i k = getD c (cellAt i k) 0
 
 -- whether it holds A
-abbrev pub inChart : List ℕ → (i k A : ℕ) → ℕ
+abbrev pub inChart : List ℕ → Findings
 inChart c i k A = bit (rd c i k) A
 
 -- ---- a cell of more than one event
--- how many pairs of a rule and a split j, i < j < k, have both premises in the words of (i, j) and (j, k); and how many of them conclude A
-unfoldable pub cellHits : Grammar → List ℕ → (i k : ℕ) → ℕ
-cellHits g c i k = between i k (λ j. hits g (rd c i j) (rd c j k))
-
+-- of the pairs of a rule and a split j, i < j < k, that have both premises in the words of (i, j) and (j, k), how many conclude A
 unfoldable pub cellConclusions : Grammar → List ℕ → (i k A : ℕ) → ℕ
 cellConclusions g c i k A = between i k (λ j. conclusions g (rd c i j) (rd c j k) A)
 
 -- f is the word of cell (i, k), bit A of it one exactly where some rule and split conclude A, and its firings
 pub record CellIs (g : Grammar) (c : List ℕ) (i k : ℕ) (f : Fired) : Type 0 where
   pub word : (A : ℕ) → bit (f .word) A ≡ min 1 (cellConclusions g c i k A)
-  pub count : f .count ≡ cellHits g c i k
+  pub count : f .count ≡ cellFirings g (inChart c) i k
 
 -- before became after: cell (i, k) is worked out from the other words, of which none changed, n its firings
 pub record CellFilled (g : Grammar) (i k : ℕ) (before after : List ℕ) (n : ℕ) : Type 0 where
@@ -60,21 +57,16 @@ pub record Column (g : Grammar) (e : ℕ) (c : List ℕ) (q : ℕ) : Type 0 wher
   pub leaf : (A : ℕ) → bit (rd c q (q + 1)) A ≡ min 1 (leafConclusions g e A)
   pub inner : (i : ℕ) → i < q → (A : ℕ) → bit (rd c i (q + 1)) A ≡ min 1 (cellConclusions g c i (q + 1) A)
 
--- its firings
-unfoldable pub columnHits : Grammar → ℕ → List ℕ → ℕ → ℕ
-columnHits g e c q = eventFirings g e + sum q (λ i. cellHits g c i (q + 1))
-
 -- column q is worked out from the older columns' words as they stand, n its firings: no other word changed
 pub record ColumnFilled (g : Grammar) (e : ℕ) (before after : List ℕ) (q n : ℕ) : Type 0 where
   pub column : Column g e after q
-  pub counted : n ≡ columnHits g e after q
-  pub low : (y : ℕ) → y < cellAt 0 (q + 1) → getD after y 0 ≡ getD before y 0
-  pub past : (y : ℕ) → cellAt q (q + 1) < y → getD after y 0 ≡ getD before y 0
+  pub counted : n ≡ columnFirings g e (inChart after) q
+  pub frame : Framed before after (cellAt 0 (q + 1)) (q + 1)
 
 -- the first n columns filled, m their firings
 pub record Columns (g : Grammar) (w before after : List ℕ) (n m : ℕ) : Type 0 where
   pub column : (q : ℕ) → q < n → Column g (getD w q 0) after q
-  pub counted : m ≡ sum n (λ q. columnHits g (getD w q 0) after q)
+  pub counted : m ≡ sum n (λ q. columnFirings g (getD w q 0) (inChart after) q)
   pub past : (y : ℕ) → cells n ≤ y → getD after y 0 ≡ getD before y 0
 
 -- ---- the one bits of the first n words

@@ -108,21 +108,21 @@ module _ (g : Grammar) (w : List ℕ) where
   unfolding count
   of-count A i k h = (getD (derivations g w A i k) 0 none, derivations-sound g w A i k (in-getD none (derivations g w A i k) 0 h))
 
-  pub known-lt : (A i k : ℕ) → known g w A i k < 2
+  pub known-lt : (A i k : ℕ) → known g w i k A < 2
   unfolding known
   known-lt A i k = omega arith
 
-  pub known-of : (A i k : ℕ) → Derivable g w A i k → known g w A i k ≡ 1
+  pub known-of : (A i k : ℕ) → Derivable g w A i k → known g w i k A ≡ 1
   unfolding known
   known-of A i k d = omega (arith, count-of A i k d)
 
-  pub of-known : (A i k : ℕ) → known g w A i k ≡ 1 → Derivable g w A i k
+  pub of-known : (A i k : ℕ) → known g w i k A ≡ 1 → Derivable g w A i k
   unfolding known
   of-known A i k e = of-count A i k (omega arith)
 
   -- ---- the two laws of `known`, with no trees and no counts in them
   pub known-one : (A i : ℕ) → i < length w
-      → known g w A i (i + 1) ≡ min 1 (sum (leafCount g) (λ r. same (eventRule g r .event) (getD w i 0) * same (eventRule g r .symbol) A))
+      → known g w i (i + 1) A ≡ min 1 (sum (leafCount g) (λ r. same (eventRule g r .event) (getD w i 0) * same (eventRule g r .symbol) A))
   unfolding known byEvent
   known-one A i h = ap (min 1) (count-one A i h)
 
@@ -130,8 +130,8 @@ module _ (g : Grammar) (w : List ℕ) where
   some-term x y s = simp (some-mul, some-once)
 
   pub known-more : (A i k : ℕ) → i + 1 < k
-      → known g w A i k ≡ min 1 (between i k (λ j. sum (pairCount g) (λ b.
-      known g w (pairRule g b .left) i j * known g w (pairRule g b .right) j k * same (pairRule g b .symbol) A)))
+      → known g w i k A ≡ min 1 (between i k (λ j. sum (pairCount g) (λ b.
+      known g w i j (pairRule g b .left) * known g w j k (pairRule g b .right) * same (pairRule g b .symbol) A)))
   unfolding known byPair bySplit between
   known-more A i k h =
       ap (min 1) (count-more A i k h ∙ sum-swap (pairCount g) (k - (i + 1)) _)

@@ -9,17 +9,17 @@ use native.Mathlib.Omega.{arith}
 use lib.Dec.{ltb}
 use borrow.Author.Tests.{ltb-true}
 use lib.ListN.{length, getD}
-use lib.Count.{ones, onesIn}
 use Rattle.bits.specs.Truth.{Decides, All, same}
 use Rattle.bits.specs.Sum.{sum, between}
 use Rattle.derivation.specs.Grammar.{Grammar}
 use Rattle.derivation.specs.Tree.{script}
 use Rattle.derivation.specs.Reading.{quiet, Admitted, spelling}
 use Rattle.derivation.specs.Derivations.{join, gate, cross, leafAt, nodesAt, splitsAt, level, trees, derivations, readings, scripts, count, known}
-use Rattle.derivation.specs.Chart.{column, cellAt, cell, items, eventFirings, pairFirings, columnFirings, firings}
+use Rattle.derivation.specs.Chart.{column, cellAt, cell, items, eventFirings, pairFirings, cellFirings, columnFirings, firings}
 use Rattle.derivation.specs.Examples.{chain, quietChain, stop, Detail, reading, word, Example, example, DetailHolds, RowHolds, examples}
 use Rattle.derivation.proofs.Lists.{_∈_, truth}
 use Rattle.derivation.proofs.Numbering.{readings-numbered}
+use Rattle.derivation.proofs.Cells.{cell-told, items-told, firings-told}
 
 -- ---- what is computed, as the definitions have it and as the row has it
 abbrev Value : Type 0
@@ -27,7 +27,7 @@ Value = record { within : Bool; words : List ℕ }
 
 detail : Grammar → List ℕ → Detail → Value
 detail g w (reading q s) = record { within = ltb q (length (scripts g w)); words = getD (scripts g w) q [] }
-detail g w (word i k n v) = record { within = true; words = cellAt i k ∷ cell g w i k ∷ [] }
+detail g w (word i k n v) = record { within = true; words = cellAt i k ∷ cell (g .symbols) (known g w) i k ∷ [] }
 
 said : Detail → Value
 said (reading q s) = record { within = true; words = s }
@@ -42,8 +42,8 @@ computed e =
     let w = e .events in
     record {
       verdict = min 1 (length (readings g w));
-      items = items g w;
-      firings = firings g w;
+      items = items (g .symbols) (length w) (known g w);
+      firings = firings g w (known g w);
       readings = length (scripts g w);
       details = map (detail g w) (e .details);
     }
@@ -58,7 +58,7 @@ stated e = record {
 }
 
 computes : map computed examples ≡ map stated examples
-unfolding examples example computed stated detail said script spelling scripts chain quietChain stop column cell readings known items firings eventFirings pairFirings columnFirings count derivations trees level join sum between same ones onesIn cross gate leafAt nodesAt splitsAt
+unfolding examples example computed stated detail said script spelling scripts chain quietChain stop column cell readings known items firings eventFirings pairFirings cellFirings columnFirings count derivations trees level join sum between same cross gate leafAt nodesAt splitsAt
 computes = refl
 
 -- ---- from the values to what the row says
@@ -75,7 +75,7 @@ detail-holds : (g : Grammar) (w : List ℕ) (d : Detail) → detail g w d ≡ sa
 unfolding detail said
 detail-holds g w (reading q s) e = (ltb-true q (length (scripts g w)) (ap (λ (v : Value). v .within) e), ap (λ (v : Value). v .words) e)
 detail-holds g w (word i k n v) e =
-    let h = ap (λ (v : Value). v .words) e in (head-eq-of-cons-eq h, head-eq-of-cons-eq (tail-eq-of-cons-eq h))
+    let h = ap (λ (v : Value). v .words) e in (head-eq-of-cons-eq h, λ s t. cell-told g w s t i k ∙ head-eq-of-cons-eq (tail-eq-of-cons-eq h))
 
 details-hold : (g : Grammar) (w : List ℕ) (ds : List Detail) → map (detail g w) ds ≡ map said ds → All (DetailHolds g w) ds
 details-hold g w [] e = tt
@@ -86,8 +86,8 @@ unfolding computed stated
 row-holds e q =
     record {
       verdict = decided (e .grammar) (e .events) (e .verdict) (ap (λ (v : Values). v .verdict) q);
-      items = ap (λ (v : Values). v .items) q;
-      firings = ap (λ (v : Values). v .firings) q;
+      items = λ s t. items-told (e .grammar) (e .events) s t ∙ ap (λ (v : Values). v .items) q;
+      firings = λ s t. firings-told (e .grammar) (e .events) s t ∙ ap (λ (v : Values). v .firings) q;
       readings = ap (λ (v : Values). v .readings) q;
       details = details-hold (e .grammar) (e .events) (e .details) (ap (λ (v : Values). v .details) q);
     }

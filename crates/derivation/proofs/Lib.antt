@@ -17,4 +17,5 @@ pub mod Places
 pub mod Columns
 pub mod Cells
 pub mod Bound
+pub mod Flag
 pub mod Examples

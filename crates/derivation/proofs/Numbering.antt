@@ -1,18 +1,20 @@
 -- `derivations` numbers the derivations of [A, i, k] and `readings` the readings, and no other list does; `known` tells whether there is
 -- a derivation, and no other number does.
 -- Assumes nothing.
-use mathlib.Core.Path.{_≡_, sym, ap, subst, _∙_}
+use mathlib.Core.Path.{_≡_, sym, ap, subst, subst₂, _∙_}
+use mathlib.Core.Logic.{⊎-elim}
 use mathlib.Core.List.{List, [], _∷_}
-use Prim.Native.Nat.{ℕ, suc, _<_}
-use native.Mathlib.Nat.{zero-lt-suc}
+use Prim.Native.Nat.{ℕ, suc, _≤_, _<_}
+use native.Mathlib.Nat.{zero-lt-suc, eq-or-lt-of-le}
 use native.Mathlib.Omega.{arith}
 use native.Mathlib.Decide.{decLt, ℕ-discrete}
 use lib.ListN.{length, getD}
+use Rattle.bits.proofs.Truths.{lt-or-ge}
 use Rattle.derivation.specs.Grammar.{Grammar}
 use Rattle.derivation.specs.Order.{Before}
 use Rattle.derivation.specs.Tree.{Derives, Derivable, script}
 use Rattle.derivation.specs.Reading.{quiet, Reads, spelling, IsReading}
-use Rattle.derivation.specs.Numbering.{none, Numbers, NumbersReadings, NumbersDerivations, Tells}
+use Rattle.derivation.specs.Numbering.{none, Numbers, NumbersReadings, NumbersDerivations, Tells, Telling}
 use Rattle.derivation.specs.Derivations.{derivations, readings, NumberOf, known}
 use Rattle.derivation.proofs.Lists.{_∈_, in-getD, place-of}
 use Rattle.derivation.proofs.Orders.{By, not-before-self, before-asym, Rising, rising-at, rising-unique}
@@ -56,7 +58,6 @@ module _ {X : Type 0} (Is : X → Type 0) (scriptOf : X → List ℕ) (past : X)
       record {
         gives = λ q h. sound (getD l q past) (in-getD past l q h);
         numbered = λ x d. place-of past l (complete x d);
-        once = λ p q h k e. place-once l rise p q h k (ap scriptOf e);
         earlier = rise;
       }
 
@@ -87,25 +88,49 @@ module _ (g : Grammar) (w : List ℕ) where
   pub number-once : (s : List ℕ) (p q : ℕ) → NumberOf g w s p → NumberOf g w s q → p ≡ q
   number-once s p q a b = place-once (Reads g w) spelling quiet (readings g w) (readings-numbered .earlier) p q (a .below) (b .below) (a .spelt ∙ sym (b .spelt))
 
+  -- and an earlier script has a smaller one
+  pub number-before : (s t : List ℕ) (p q : ℕ) → NumberOf g w s p → NumberOf g w t q → Before s t → p < q
+  number-before s t p q a b h =
+      ⊎-elim (λ (l : p < q). l) (λ (l : q ≤ p). absurd (not-later l)) (lt-or-ge p q)
+    where
+      later : q < p → Before t s
+      later l = subst₂ Before (b .spelt) (a .spelt) (readings-numbered .earlier q p l (a .below))
+
+      not-later : q ≤ p → ⊥
+      not-later l =
+          ⊎-elim (λ (e : q ≡ p). not-before-self (subst (Before s) (sym (b .spelt) ∙ ap (λ (x : ℕ). spelling (getD (readings g w) x quiet)) e ∙ a .spelt) h))
+          (λ (m : q < p). before-asym h (later m)) (eq-or-lt-of-le l)
+
   -- ---- the derivations of [A, i, k]
   pub derivations-numbered : (A i k : ℕ) → NumbersDerivations g w A i k (derivations g w A i k)
   derivations-numbered A i k =
       numbers-of (Derives g w A i k) script none (derivations g w A i k) (λ t m. derivations-sound g w A i k m) (derivations-complete g w A i k)
       (derivations-rising g w A i k)
 
+  pub derivation-once : (A i k p q : ℕ) → p < length (derivations g w A i k) → q < length (derivations g w A i k)
+      → getD (derivations g w A i k) p none ≡ getD (derivations g w A i k) q none → p ≡ q
+  derivation-once A i k p q h l e =
+      place-once (Derives g w A i k) script none (derivations g w A i k) (derivations-numbered A i k .earlier) p q h l (ap script e)
+
   -- ---- whether there is one
-  pub known-tells : (A i k : ℕ) → Tells g w A i k (known g w A i k)
+  pub known-tells : (A i k : ℕ) → Tells g w A i k (known g w i k A)
   known-tells A i k = record {
     yes = known-of g w A i k;
-    no = λ n. elim (ℕ-discrete (known g w A i k) 1) [ yes e ↦ absurd (n (of-known g w A i k e)) | no e ↦ below-two (known-lt g w A i k) e ];
+    no = λ n. elim (ℕ-discrete (known g w i k A) 1) [ yes e ↦ absurd (n (of-known g w A i k e)) | no e ↦ below-two (known-lt g w A i k) e ];
   }
     where
       below-two : {x : ℕ} → x < 2 → (x ≡ 1 → ⊥) → x ≡ 0
       below-two {x} l e = omega arith
 
-  pub tells-only : (A i k x : ℕ) → Tells g w A i k x → x ≡ known g w A i k
+  pub tells-only : (A i k x : ℕ) → Tells g w A i k x → x ≡ known g w i k A
   tells-only A i k x t =
-      elim (ℕ-discrete (known g w A i k) 1) [
+      elim (ℕ-discrete (known g w i k A) 1) [
         | yes e ↦ t .yes (of-known g w A i k e) ∙ sym e
         | no e ↦ let n : Derivable g w A i k → ⊥ = λ d. e (known-of g w A i k d) in t .no n ∙ sym (known-tells A i k .no n)
       ]
+
+  pub known-telling : Telling g w (known g w)
+  known-telling = record { at = known-tells }
+
+  pub telling-only : (s : (i k A : ℕ) → ℕ) → Telling g w s → (i k A : ℕ) → s i k A ≡ known g w i k A
+  telling-only s t i k A = tells-only A i k (s i k A) (t .at A i k)

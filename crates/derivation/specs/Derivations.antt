@@ -1,7 +1,6 @@
 -- Every derivation of [A, i, k] and every reading, the earliest script first, and how many there are.
 -- How the lists are made need not be believed: they are the only ones with `NumbersDerivations g w A i k` and `NumbersReadings g w`
--- (`derivations-numbered`, `readings-numbered`, `numbers-only`), and `known` is the only number with `Tells g w A i k` (`known-tells`,
--- `tells-only`).
+-- (`derivations-numbered`, `readings-numbered`, `numbers-only`), and `known` is the only one that is `Telling` (`known-telling`, `telling-only`).
 -- Assumes nothing.
 use mathlib.Core.Path.{_≡_}
 use mathlib.Core.Bool.{Bool, true, false, _&&_}
@@ -96,5 +95,5 @@ unfoldable pub count : Grammar → List ℕ → ℕ → ℕ → ℕ → ℕ
 count g w A i k = length (derivations g w A i k)
 
 -- 1 where [A, i, k] is derivable, else 0
-unfoldable pub known : Grammar → List ℕ → ℕ → ℕ → ℕ → ℕ
-known g w A i k = min 1 (count g w A i k)
+unfoldable pub known : Grammar → List ℕ → (i k A : ℕ) → ℕ
+known g w i k A = min 1 (count g w A i k)

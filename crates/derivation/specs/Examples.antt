@@ -9,7 +9,8 @@ use Rattle.bits.specs.Truth.{Decides, All}
 use Rattle.derivation.specs.Grammar.{Grammar}
 use Rattle.derivation.specs.Reading.{Admitted}
 use Rattle.derivation.specs.Derivations.{scripts}
-use Rattle.derivation.specs.Chart.{cellAt, cell, items, firings}
+use Rattle.derivation.specs.Numbering.{Telling}
+use Rattle.derivation.specs.Chart.{cellAt, Findings, cell, items, firings}
 
 -- ---- the grammars
 unfoldable pub chain : Grammar
@@ -58,12 +59,12 @@ example g w v m f n d = record { grammar = g; events = w; verdict = v; items = m
 
 abbrev pub DetailHolds : Grammar → List ℕ → Detail → Type 0
 DetailHolds g w (reading q s) = (q < length (scripts g w)) × (getD (scripts g w) q [] ≡ s)
-DetailHolds g w (word i k n v) = (cellAt i k ≡ n) × (cell g w i k ≡ v)
+DetailHolds g w (word i k n v) = (cellAt i k ≡ n) × ((s : Findings) → Telling g w s → cell (g .symbols) s i k ≡ v)
 
 pub record RowHolds (e : Example) : Type 0 where
   pub verdict : Decides (e .verdict) (Admitted (e .grammar) (e .events))
-  pub items : items (e .grammar) (e .events) ≡ e .items
-  pub firings : firings (e .grammar) (e .events) ≡ e .firings
+  pub items : (s : Findings) → Telling (e .grammar) (e .events) s → items (e .grammar .symbols) (length (e .events)) s ≡ e .items
+  pub firings : (s : Findings) → Telling (e .grammar) (e .events) s → firings (e .grammar) (e .events) s ≡ e .firings
   pub readings : length (scripts (e .grammar) (e .events)) ≡ e .readings
   pub details : All (DetailHolds (e .grammar) (e .events)) (e .details)
 

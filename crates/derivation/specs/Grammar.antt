@@ -46,3 +46,7 @@ byRule f h g = map f (g .leaves) ++ map h (g .pairs)
 -- the symbol of rule r, of either kind
 unfoldable pub ruleSymbol : Grammar → ℕ → ℕ
 ruleSymbol g r = getD (byRule (λ q. q .symbol) (λ q. q .symbol) g) r 0
+
+-- the same rules with another flag
+unfoldable pub flagged : ℕ → Grammar → Grammar
+flagged q g = record { symbols = g .symbols; leaves = g .leaves; pairs = g .pairs; quiet = q }

@@ -16,9 +16,7 @@ pub record Numbers {X : Type 0} (Is : X → Type 0) (scriptOf : X → List ℕ) 
   pub gives : (q : ℕ) → q < length l → Is (getD l q past)
   -- each has a number
   pub numbered : (x : X) → Is x → (q : ℕ) × (q < length l) × (getD l q past ≡ x)
-  -- and no more than one
-  pub once : (p q : ℕ) → p < length l → q < length l → getD l p past ≡ getD l q past → p ≡ q
-  -- a smaller number means an earlier script
+  -- a smaller number means an earlier script; so none has two
   pub earlier : (p q : ℕ) → p < q → q < length l → Before (scriptOf (getD l p past)) (scriptOf (getD l q past))
 
 -- l numbers the readings of w: demand 3
@@ -37,3 +35,7 @@ NumbersDerivations g w A i k l = Numbers (Derives g w A i k) script none l
 pub record Tells (g : Grammar) (w : List ℕ) (A i k x : ℕ) : Type 0 where
   pub yes : Derivable g w A i k → x ≡ 1
   pub no : (Derivable g w A i k → ⊥) → x ≡ 0
+
+-- s tells it of every symbol and stretch
+pub record Telling (g : Grammar) (w : List ℕ) (s : (i k A : ℕ) → ℕ) : Type 0 where
+  pub at : (A i k : ℕ) → Tells g w A i k (s i k A)

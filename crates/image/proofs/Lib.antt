@@ -4,3 +4,4 @@ pub mod Images
 pub mod Decided
 pub mod Long
 pub mod Examples
+pub mod Flags

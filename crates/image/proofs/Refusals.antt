@@ -5,7 +5,7 @@ use mathlib.Core.Path.{_≡_, refl, sym, _∙_, subst}
 use mathlib.Core.Logic.{inl, inr, _≢_}
 use mathlib.Core.List.{List, [], _∷_, _++_}
 use Rattle.bits.specs.Truth.{All}
-use Rattle.image.specs.Refusal.{Row, _unless_, FirstOf, First}
+use Rattle.image.specs.Refusal.{Row, _unless_, FirstOf, First, Exactly, numberOf, demand, AllHold}
 
 -- the three ways to an answer
 pub none : First [] 0
@@ -27,17 +27,6 @@ only ((k unless P) ∷ rows) m n (inr p) (inr q) = only rows m n (p .1) (q .1)
 
 pub first-only : {rows : List Row} {m n : ℕ} → First rows m → First rows n → m ≡ n
 first-only {rows} {m} {n} p q = only rows m n (p .is) (q .is)
-
--- the two things that a row has
-abbrev pub numberOf : Row → ℕ
-numberOf (k unless P) = k
-
-abbrev pub demand : Row → Type 0
-demand (k unless P) = P
-
--- what the table asks, all of it
-abbrev pub AllHold : List Row → Type 0
-AllHold = All demand
 
 -- no row has the number n
 abbrev pub Lacks : ℕ → List Row → Type 0
@@ -75,16 +64,29 @@ pub past-zero : (rows more : List Row) → Positive rows → (r : ℕ) → r ≡
 past-zero rows more z r e p q = first-pass rows more (all-hold rows z r e p) q
 
 -- an answer that is no number of the first table comes from the second, and the first passes
-split : (rows more : List Row) (n : ℕ) → Lacks n rows → FirstOf (rows ++ more) n → FirstOf rows 0 × FirstOf more n
-split [] more n u p = (refl, p)
+split : (rows more : List Row) (n : ℕ) → Lacks n rows → FirstOf (rows ++ more) n → AllHold rows × FirstOf more n
+split [] more n u p = (tt, p)
 split ((k unless P) ∷ rows) more n u (inl p) = absurd (u .0 (p .1))
-split ((k unless P) ∷ rows) more n u (inr p) = let q = split rows more n (u .1) (p .1) in (inr (p .0, q .0), q .1)
+split ((k unless P) ∷ rows) more n u (inr p) = let q = split rows more n (u .1) (p .1) in ((p .0, q .0), q .1)
+
+hold-zero : (rows : List Row) → AllHold rows → FirstOf rows 0
+hold-zero [] h = refl
+hold-zero ((k unless P) ∷ rows) h = inr (h .0, hold-zero rows (h .1))
 
 pub reached : (rows more : List Row) (n : ℕ) → Lacks n rows → First (rows ++ more) n → First rows 0
-reached rows more n u p = record { is = split rows more n u (p .is) .0 }
+reached rows more n u p = record { is = hold-zero rows (split rows more n u (p .is) .0) }
 
 pub passed : (rows more : List Row) (n : ℕ) → Lacks n rows → First (rows ++ more) n → First more n
 passed rows more n u p = record { is = split rows more n u (p .is) .1 }
+
+-- behind rows that hold the others decide
+held : (rows more : List Row) (n : ℕ) → AllHold rows → FirstOf (rows ++ more) n → FirstOf more n
+held [] more n h p = p
+held ((k unless P) ∷ rows) more n h (inl p) = absurd (p .0 (h .0))
+held ((k unless P) ∷ rows) more n h (inr p) = held rows more n (h .1) (p .1)
+
+pub holding-passed : (rows more : List Row) (n : ℕ) → First rows 0 → Positive rows → First (rows ++ more) n → First more n
+holding-passed rows more n h z p = record { is = held rows more n (first-zero rows z (h .is)) (p .is) }
 
 -- a table that does not hold decides alone
 lone : (rows more : List Row) (n : ℕ) → (AllHold rows → ⊥) → FirstOf (rows ++ more) n → FirstOf rows n
@@ -112,3 +114,18 @@ follow ((k unless P) ∷ rows) more rest n f (inr p) = inr (p .0, follow rows mo
 
 pub behind : (rows more rest : List Row) (n : ℕ) → (FirstOf more n → FirstOf rest n) → First (rows ++ more) n → First (rows ++ rest) n
 behind rows more rest n f p = record { is = follow rows more rest n f (p .is) }
+
+-- ---- demand 1: 0 is given exactly where every demand holds, and a refusal exactly where its own is the first that fails
+pub answered-exactly : (rows : List Row) → Positive rows → {n : ℕ} → First rows n → Exactly (n ≡ 0) (AllHold rows)
+answered-exactly rows z p = record { only = λ e. all-hold rows z _ e p; whenever = λ h. first-only p (record { is = hold-zero rows h }) }
+
+pub refused-exactly : (before : List Row) (k : ℕ) (P : Type 0) (after : List Row) → k ≢ 0 → Lacks k before → Lacks k after → {n : ℕ}
+    → First (before ++ ((k unless P) ∷ after)) n → Exactly (n ≡ k) (AllHold before × (P → ⊥))
+refused-exactly before k P after z u v p = record {
+  only = λ e. let q = split before ((k unless P) ∷ after) k u (subst (FirstOf (before ++ ((k unless P) ∷ after))) e (p .is)) in (q .0, own (q .1));
+  whenever = λ h. first-only p (first-pass before ((k unless P) ∷ after) (h .0) (fail (h .1)));
+}
+  where
+    own : FirstOf ((k unless P) ∷ after) k → P → ⊥
+    own (inl f) = f .0
+    own (inr f) = absurd (gives after k z v (f .1))

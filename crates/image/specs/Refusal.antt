@@ -4,6 +4,7 @@ use Prim.Native.Nat.{ℕ}
 use mathlib.Core.Path.{_≡_}
 use mathlib.Core.Logic.{_⊎_}
 use mathlib.Core.List.{List, [], _∷_}
+use Rattle.bits.specs.Truth.{All}
 
 infix 3 _unless_
 -- a row of the table: the number, and what has to hold for it not to be given
@@ -18,3 +19,19 @@ FirstOf ((k unless P) ∷ rows) n = ((P → ⊥) × (n ≡ k)) ⊎ (P × FirstOf
 -- the same as a record, whose parameters antt infers
 pub record First (rows : List Row) (n : ℕ) : Type 0 where
   pub is : FirstOf rows n
+
+-- ---- P exactly when Q
+pub record Exactly (P Q : Type 0) : Type 0 where
+  pub only : P → Q
+  pub whenever : Q → P
+
+-- the two things that a row has
+abbrev pub numberOf : Row → ℕ
+numberOf (k unless P) = k
+
+abbrev pub demand : Row → Type 0
+demand (k unless P) = P
+
+-- every demand of the table holds
+abbrev pub AllHold : List Row → Type 0
+AllHold = All demand

@@ -8,9 +8,9 @@ use Prim.Native.Nat.{ℕ, _+_, _≤_, _<_}
 use native.Mathlib.Omega.{arith}
 use lib.ListN.{length, take}
 use lib.Seq.{getD-take, length-take-le, take-all}
-use Rattle.image.specs.Refusal.{First}
+use Rattle.image.specs.Refusal.{First, AllHold}
 use Rattle.image.specs.Image.{imageRows, longestImage}
-use Rattle.image.proofs.Refusals.{AllHold, all-hold, first-hit, alone, behind}
+use Rattle.image.proofs.Refusals.{all-hold, first-hit, alone, behind}
 use Rattle.image.proofs.Images.{holding, accepted-short}
 use Rattle.image.proofs.Long.{begins-alike, long-names}
 use Rattle.bits.proofs.Truths.{lt-or-ge}

@@ -21,7 +21,7 @@ use Rattle.derivation.specs.Derivations.{derivations, count}
 use Rattle.derivation.specs.Numbering.{none}
 use Rattle.derivation.proofs.Sound.{symbols-rise}
 use Rattle.derivation.proofs.Counts.{bySplit, byPair, count-more}
-use Rattle.derivation.proofs.Numbering.{derivations-numbered}
+use Rattle.derivation.proofs.Numbering.{derivation-once}
 use Rattle.derivation.proofs.Places.{node-at, node-room}
 use Rattle.table.specs.Fill.{splitAdds}
 use Rattle.table.proofs.Adds.{Ready, split-counted}
@@ -70,7 +70,7 @@ module _ (g : Grammar) (w : List ℕ) (A i k : ℕ) where
         → q ≡ start b j + (x * count g w C j k + y)
     unfolding count
     placed q x y l hx hy e =
-        derivations-numbered g w A i k .once q _ l (node-room g w A i k b j rule after before x y symbol hx hy)
+        derivation-once g w A i k q _ l (node-room g w A i k b j rule after before x y symbol hx hy)
         (e ∙ sym (node-at g w A i k b j rule after before x y symbol hx hy))
         ∙ sym (add-assoc _ _ _)
 

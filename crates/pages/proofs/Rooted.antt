@@ -17,7 +17,7 @@ use Rattle.derivation.specs.Derivations.{derivations, count}
 use Rattle.derivation.specs.Numbering.{none}
 use Rattle.derivation.proofs.Sound.{derives-fits}
 use Rattle.derivation.proofs.Counts.{byPair, bySplit}
-use Rattle.derivation.proofs.Numbering.{derivations-numbered}
+use Rattle.derivation.proofs.Numbering.{derivations-numbered, derivation-once}
 use Rattle.derivation.proofs.Places.{leaf-first, node-at, node-room}
 use Rattle.lookup.specs.declared.Pair.{Pair}
 use Rattle.lookup.specs.Rule.{PairIs}
@@ -60,7 +60,7 @@ module _ (g : Grammar) (w : List ℕ) (A i k : ℕ) where
     where
       go : (t : Tree) → getD (derivations g w A i k) q none ≡ t → Derives g w A i k t → q ≡ 0
       go (leaf r p) f d =
-          derivations-numbered g w A i k .once q 0 h (omega arith)
+          derivation-once g w A i k q 0 h (omega arith)
           (f ∙ rw (e, d .place) (sym (leaf-first g w A i r (d .inside) (d .rule) (d .symbol) (d .event) o)))
       go (node r j t u) f d = absurd (omega (arith, d .0 .after, d .0 .before))
 

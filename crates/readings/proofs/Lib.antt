@@ -3,3 +3,4 @@ pub mod Only
 pub mod Numbered
 pub mod Undone
 pub mod Pages
+pub mod Exactly

@@ -13,7 +13,7 @@ use Rattle.derivation.specs.Order.{Before}
 use Rattle.derivation.specs.Tree.{scriptWords}
 use Rattle.derivation.specs.Reading.{IsReading}
 use Rattle.derivation.specs.Derivations.{NumberOf}
-use Rattle.derivation.proofs.Numbering.{readings-numbered, number-of, of-number, number-once}
+use Rattle.derivation.proofs.Numbering.{readings-numbered, number-of, of-number, number-once, number-before}
 use Rattle.derivation.proofs.Readings.{spelling-length}
 use Rattle.layout.specs.Layout.{decode}
 use Rattle.image.specs.Refusal.{First}
@@ -82,5 +82,11 @@ module _ (b w : List ℕ) where
   every : (s : List ℕ) → IsReading (decode b) w s → (k : ℕ) × ((k < howMany (decode b) w) × ((o : List ℕ) → Gave b w k o → written w o ≡ s))
   every s d = let n = number-of (decode b) w s d in (n .0, (n .1 .below, λ o p. sym (gave-number (n .0) o p .spelt) ∙ n .1 .spelt))
 
+  no-gap : (k : ℕ) (o s : List ℕ) → Gave b w k o → IsReading (decode b) w s → Before s (written w o)
+      → (m : ℕ) × ((m < k) × ((v : List ℕ) → Gave b w m v → written w v ≡ s))
+  no-gap k o s p d h =
+      let n = number-of (decode b) w s d in
+      (n .0, (number-before (decode b) w s (written w o) (n .0) k (n .1) (gave-number k o p) h, λ v q. sym (gave-number (n .0) v q .spelt) ∙ n .1 .spelt))
+
   pub one-to-one : OneToOne b w
-  one-to-one = record { each = each; reading = reading; once = once; earlier = earlier; every = every }
+  one-to-one = record { each = each; reading = reading; once = once; earlier = earlier; every = every; first = no-gap }

@@ -11,17 +11,17 @@ use lib.ListN.{length, take, drop}
 use Rattle.derivation.specs.Tree.{scriptWords}
 use Rattle.derivation.proofs.Pages.{page-one, page-at}
 use Rattle.layout.specs.Layout.{decode}
-use Rattle.image.specs.Refusal.{Row, _unless_, FirstOf, First}
-use Rattle.image.proofs.Refusals.{AllHold, all-hold, first-only, past-zero, passed}
+use Rattle.image.specs.Refusal.{Row, _unless_, FirstOf, First, AllHold}
+use Rattle.image.proofs.Refusals.{all-hold, first-only, past-zero, passed}
 use Rattle.image.specs.Image.{mostEvents}
 use Rattle.table.specs.Table.{limit, held}
 use Rattle.readings.specs.declared.Read.{Read}
 use Rattle.readings.specs.declared.Paged.{Paged}
 use Rattle.readings.specs.Count.{howMany}
-use Rattle.readings.specs.Reading.{lentRows, numberRows, readingRows, ReadingIs}
+use Rattle.readings.specs.Reading.{ReadingPasses, lentRows, numberRows, readingRows, ReadingIs}
 use Rattle.readings.specs.Page.{onPage, PageIs}
 use Rattle.readings.specs.Demand.{Gave, written}
-use Rattle.readings.specs.Paging.{GavePage, writtenAt, ReadingPasses, Paging}
+use Rattle.readings.specs.Paging.{GavePage, writtenAt, Paging}
 use Rattle.readings.proofs.Refuses.{number-ok}
 use Rattle.readings.proofs.Numbered.{each, gave-number}
 

@@ -12,9 +12,9 @@ use Rattle.derivation.specs.Reading.{IsReading}
 use Rattle.derivation.specs.Derivations.{NumberOf}
 use Rattle.derivation.proofs.Numbering.{of-number, number-once}
 use Rattle.layout.specs.Layout.{decode}
-use Rattle.image.specs.Refusal.{Row, _unless_, FirstOf, First}
+use Rattle.image.specs.Refusal.{Row, _unless_, FirstOf, First, demand, AllHold}
 use Rattle.image.specs.Image.{mostEvents, recordRows, Names, Accepted}
-use Rattle.image.proofs.Refusals.{demand, AllHold, Lacks, none, fail, pass, all-hold, reached, never}
+use Rattle.image.proofs.Refusals.{Lacks, none, fail, pass, all-hold, reached, never}
 use Rattle.image.proofs.Named.{names-before, names-behind}
 use Rattle.image.proofs.Images.{record-holding}
 use Rattle.table.specs.Table.{limit, held, tableWords}
@@ -22,28 +22,20 @@ use Rattle.rank.specs.Rank.{HeldOf}
 use Rattle.readings.specs.Count.{tableRows, countRows}
 use Rattle.readings.specs.Reading.{roomRows, Beyond, numberRows, lentRows, Fills}
 use Rattle.readings.specs.Number.{scriptRows}
+use Rattle.readings.specs.Exact.{Countable, Lendable}
 
 -- ---- what the answer 0 gives
-pub record CountOk (b : List ℕ) (n size : ℕ) : Type 0 where
-  pub image : Accepted b
-  pub few : n ≤ mostEvents
-  pub fits : tableWords (decode b .symbols) n ≤ size
-
-pub record LentOk (b : List ℕ) (n size need space : ℕ) : Type 0 where
-  pub count : CountOk b n size
-  pub fits : need ≤ space
-
 module _ (b : List ℕ) (n size : ℕ) where
-  count-holds : AllHold (countRows b n size) → CountOk b n size
+  count-holds : AllHold (countRows b n size) → Countable b n size
   count-holds h =
       let r = record-holding b n (all-front demand (recordRows b n) (tableRows b n size) h) in
       record { image = r .0; few = r .1; fits = all-back demand (recordRows b n) (tableRows b n size) h .0 }
 
-  pub count-ok : (r : ℕ) → r ≡ 0 → First (countRows b n size) r → CountOk b n size
+  pub count-ok : (r : ℕ) → r ≡ 0 → First (countRows b n size) r → Countable b n size
   count-ok r e p = count-holds (all-hold (countRows b n size) (omega arith) r e p)
 
   module _ (need space : ℕ) where
-    pub lent-ok : (r : ℕ) → r ≡ 0 → First (lentRows b n size need space) r → LentOk b n size need space
+    pub lent-ok : (r : ℕ) → r ≡ 0 → First (lentRows b n size need space) r → Lendable b n size need space
     lent-ok r e p =
         let h = all-hold (lentRows b n size need space) (omega arith) r e p in
         record { count = count-holds (all-front demand (countRows b n size) (roomRows need space) h); fits = all-back demand (countRows b n size) (roomRows need space) h .0 }

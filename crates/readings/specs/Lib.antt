@@ -6,3 +6,4 @@ pub mod Demand
 pub mod Undo
 pub mod Page
 pub mod Paging
+pub mod Exact

@@ -9,7 +9,7 @@ use Rattle.image.specs.Refusal.{First}
 use Rattle.table.specs.Table.{limit}
 use Rattle.readings.specs.declared.Read.{Read}
 use Rattle.readings.specs.declared.Paged.{Paged}
-use Rattle.readings.specs.Reading.{lentRows, ReadingIs}
+use Rattle.readings.specs.Reading.{lentRows, ReadingPasses, ReadingIs}
 use Rattle.readings.specs.Page.{PageIs}
 use Rattle.readings.specs.Demand.{Gave, written}
 
@@ -27,10 +27,6 @@ pub record GavePage (b w : List ℕ) (k m c : ℕ) (room′ : List ℕ) : Type 0
 -- the words where script x of a page stands
 abbrev pub writtenAt : (w : List ℕ) (x : ℕ) (room′ : List ℕ) → List ℕ
 writtenAt w x room′ = take (scriptWords (length w)) (drop (x * scriptWords (length w)) room′)
-
--- the refusals before the table is filled let a reading pass
-abbrev pub ReadingPasses : (b w table room : List ℕ) → Type 0
-ReadingPasses b w table room = First (lentRows b (length w) (length table) (scriptWords (length w)) (length room)) 0
 
 pub record Paging (b w : List ℕ) : Type 0 where
   -- script x of a page from number k on is the script given for k + x

@@ -35,6 +35,10 @@ lentRows b n size need space = countRows b n size ++ roomRows need space
 abbrev pub readingRows : (b w : List ℕ) (k : ℕ) (table room : List ℕ) → List Row
 readingRows b w k table room = lentRows b (length w) (length table) (scriptWords (length w)) (length room) ++ numberRows k (howMany (decode b) w)
 
+-- these let a reading pass
+abbrev pub ReadingPasses : (b w table room : List ℕ) → Type 0
+ReadingPasses b w table room = First (lentRows b (length w) (length table) (scriptWords (length w)) (length room)) 0
+
 -- success and refusals 12 and 13 leave the table filled
 abbrev pub Fills : ℕ → Type 0
 Fills n = (n ≡ 0) ⊎ ((n ≡ 12) ⊎ (n ≡ 13))

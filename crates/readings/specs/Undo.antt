@@ -4,12 +4,11 @@ use mathlib.Core.Path.{_≡_}
 use mathlib.Core.List.{List}
 use Prim.Native.Nat.{ℕ}
 use lib.ListN.{length}
-use Rattle.derivation.specs.Tree.{scriptWords}
 use Rattle.image.specs.Refusal.{First}
 use Rattle.readings.specs.declared.Read.{Read}
 use Rattle.readings.specs.declared.Found.{Found}
 use Rattle.readings.specs.Count.{countRows}
-use Rattle.readings.specs.Reading.{lentRows, ReadingIs}
+use Rattle.readings.specs.Reading.{ReadingPasses, ReadingIs}
 use Rattle.readings.specs.Number.{NumberIs}
 use Rattle.readings.specs.Demand.{Gave, written}
 
@@ -30,5 +29,5 @@ pub record Undo (b w : List ℕ) : Type 0 where
   -- where the one has answered, the other does too, if the memory lent to it is long enough
   pub told : (k : ℕ) (o : List ℕ) → Gave b w k o → (table : List ℕ) (r : Found) (t : List ℕ) → First (countRows b (length w) (length table)) 0
       → NumberIs b w (written w o) table r t → r .number ≡ 0
-  pub given : (q : ℕ) (s : List ℕ) → Told b w s q → (table room : List ℕ) (r : Read) (t o : List ℕ) → First (lentRows b (length w) (length table) (scriptWords (length w)) (length room)) 0
+  pub given : (q : ℕ) (s : List ℕ) → Told b w s q → (table room : List ℕ) (r : Read) (t o : List ℕ) → ReadingPasses b w table room
       → ReadingIs b w q table room r t o → r .number ≡ 0

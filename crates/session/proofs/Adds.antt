@@ -79,7 +79,7 @@ module _ (g : Grammar) (s : Session) (e : ℕ) (a d : Added) (p : AddAnswered g 
   columns = column-only g e (s .chart) (a .session .chart) (d .session .chart) (s .count) (a .firings) (d .firings) (p .column) (q .column)
 
   chart-same : a .session .chart ≡ d .session .chart
-  chart-same = ext-getD 0 _ _ (p .long ∙ sym (q .long)) (λ y l. columns .0 y)
+  chart-same = ext-getD 0 _ _ (p .column .frame .long ∙ sym (q .column .frame .long)) (λ y l. columns .0 y)
 
   verdict-same : a .admitted ≡ d .admitted
   verdict-same = decides-only _ (a .admitted) (d .admitted) (p .admitted)

@@ -26,7 +26,7 @@ module _ (g : Grammar) (ok : Sound g) (s t : Session) (e : ℕ) (a d : Added) (a
   held : (i k A : ℕ) → i < k → k ≤ s .count → A < g .symbols → bit (rd (a .session .chart) i k) A ≡ bit (rd (d .session .chart) i k) A
   held i k A l h small =
       let m = column-mono k (s .count + 1) (omega arith) in
-      ap (λ (x : ℕ). bit x A) (p .column .low _ (omega (arith, m))) ∙ alike .held i k A l h small ∙ sym (ap (λ (x : ℕ). bit x A) (theirs .low _ (omega (arith, m))))
+      ap (λ (x : ℕ). bit x A) (p .column .frame .before _ (omega (arith, m))) ∙ alike .held i k A l h small ∙ sym (ap (λ (x : ℕ). bit x A) (theirs .frame .before _ (omega (arith, m))))
 
   words : (i : ℕ) → i ≤ s .count → rd (a .session .chart) i (s .count + 1) ≡ rd (d .session .chart) i (s .count + 1)
   words = symbols-decide g ok e _ _ (s .count) (p .column .column) (theirs .column) held

@@ -12,7 +12,10 @@ use Rattle.bits.proofs.Frames.{around}
 use Rattle.bits.proofs.Truths.{decides-only}
 use Rattle.bits.proofs.Words.{zeros}
 use Rattle.derivation.specs.Reading.{Admitted}
+use Rattle.derivation.specs.Numbering.{Telling}
+use Rattle.derivation.specs.Derivations.{known}
 use Rattle.derivation.specs.Chart.{column, cellAt, cells}
+use Rattle.derivation.proofs.Numbering.{known-telling}
 use Rattle.derivation.proofs.Columns.{cells-column, column-more}
 use Rattle.layout.specs.Layout.{decode}
 use Rattle.image.specs.Image.{imageRows, eventRows, Accepted}
@@ -63,7 +66,7 @@ module _ (b w : List ℕ) (s : Session) (m e : ℕ) (a : Added) (was : Whole b w
   whole-more : Whole b (w then e) (a .session) (m + a .firings)
   whole-more = record {
     count = is .count ∙ ap (λ (n : ℕ). n + 1) (was .count) ∙ sym (then-long w e);
-    long = is .long ∙ was .long;
+    long = is .column .frame .long ∙ was .long;
     columns = rw (then-long w e) (columns-step (decode b) (w then e) _ _ _ (length w) m _ older filled);
   }
 
@@ -105,6 +108,9 @@ module _ (b w : List ℕ) (s : Session) (m e : ℕ) (a : Added) (grown : Grown b
         (past-zero (imageRows b) (eventRows (length (w then e)) ++ chartRows (length (w then e)) (length before)) (omega arith) 0 refl
         (accepted-back b image-ok) (pass (omega (arith, few)) (pass long none)))
 
+    told : Telling (decode b) (w then e) (known (decode b) (w then e))
+    told = known-telling (decode b) (w then e)
+
     theirs : Answered (decode b) (w then e) before r c
     theirs = j .answered number
 
@@ -115,7 +121,7 @@ module _ (b w : List ℕ) (s : Session) (m e : ℕ) (a : Added) (grown : Grown b
       count = now .count;
       words = shows-only (decode b) (w then e) _ _ (own .chart) (theirs .chart);
       admitted = decides-only (Admitted (decode b) (w then e)) (a .admitted) (r .admitted) (own .admitted) (theirs .admitted);
-      firings = own .firings ∙ sym (theirs .firings);
+      firings = own .firings _ told ∙ sym (theirs .firings _ told);
     }
 
   -- into zero words
@@ -147,11 +153,11 @@ module _ (b w : List ℕ) (s : Session) (m e : ℕ) (a : Added) (grown : Grown b
         p .columns .past y (omega (arith, l, cells-column (length w), ap (λ (n : ℕ). column (n + 1)) (p .count))) ∙ empty-zero y
 
     word : (y : ℕ) → getD (t .session .chart) y 0 ≡ getD (s .chart) y 0
-    word = around (t .session .chart) (s .chart) (cellAt 0 (s .count + 1)) (s .count + 1) (λ y l. frame .before y l ∙ is .answered success .column .low y l)
-        (λ x l. cleared-words .at x l ∙ sym (was-zero _ (omega arith))) (λ y l. frame .after y l ∙ is .answered success .column .past y (omega arith))
+    word = around (t .session .chart) (s .chart) (cellAt 0 (s .count + 1)) (s .count + 1) (λ y l. frame .before y l ∙ is .answered success .column .frame .before y l)
+        (λ x l. cleared-words .at x l ∙ sym (was-zero _ (omega arith))) (λ y l. frame .after y l ∙ is .answered success .column .frame .after y (omega arith))
 
     undone : (t .number ≡ 0) × (t .session ≡ s)
-    undone = (taken, session-eq _ _ (ext-getD 0 _ _ (cleared .frame .long ∙ is .answered success .long) (λ y l. word y)) (omega (arith, cleared .count, is .answered success .count)))
+    undone = (taken, session-eq _ _ (ext-getD 0 _ _ (cleared .frame .long ∙ is .answered success .column .frame .long) (λ y l. word y)) (omega (arith, cleared .count, is .answered success .count)))
 
 pub growing : (b w : List ℕ) (s : Session) (m e : ℕ) (a : Added) → Grown b w s m → AddIs b s e a → a .number ≡ 0 → Growing b w s m e a
 growing b w s m e a grown is success = record {

@@ -49,7 +49,6 @@ pub record AddRefused (s : Session) (a : Added) : Type 0 where
 pub record AddAnswered (g : Grammar) (s : Session) (e : ℕ) (a : Added) : Type 0 where
   pub count : a .session .count ≡ s .count + 1
   pub column : ColumnFilled g e (s .chart) (a .session .chart) (s .count) (a .firings)
-  pub long : length (a .session .chart) ≡ length (s .chart)
   pub admitted : Decides (a .admitted) (bit (rd (a .session .chart) 0 (s .count + 1)) 0 ≡ 1)
 
 pub record AddIs (b : List ℕ) (s : Session) (e : ℕ) (a : Added) : Type 0 where

@@ -5,13 +5,14 @@ use native.Mathlib.Omega.{arith}
 use lib.ListN.{length}
 use Rattle.image.proofs.Named.{names-before}
 use Rattle.table.proofs.Tables.{counts-in}
-use Rattle.readings.proofs.Refuses.{CountOk, count-ok}
+use Rattle.readings.specs.Exact.{Countable}
+use Rattle.readings.proofs.Refuses.{count-ok}
 use borrow.Author.Needs.{needs}
 use Rattle.readings.proofs.count.Statement.{statement}
 use Rattle.readings.proofs.count.Tie as tie
 
 -- what the refusals leave
-ok : (c : tie.Else1) → let s = c .before .before .before .before .before .args in CountOk (s .image .now) (length (s .events .now)) (length (s .table .now))
+ok : (c : tie.Else1) → let s = c .before .before .before .before .before .args in Countable (s .image .now) (length (s .events .now)) (length (s .table .now))
 ok c = count-ok _ _ _ _ (c .if1 .left) (c .before .count-refusal .ensures .number)
 
 count-refusal-requires : tie.Need-count-refusal-requires

@@ -10,7 +10,8 @@ use Rattle.image.specs.Refusal.{Row, First}
 use Rattle.image.proofs.Refusals.{first-hit, past-zero}
 use Rattle.table.proofs.Tables.{counts-in}
 use Rattle.readings.specs.Count.{countRows}
-use Rattle.readings.proofs.Refuses.{CountOk, count-ok, early-keeps, count-early, no-reading, past-limit, is-number, below-limit, late-fills, fills-name}
+use Rattle.readings.specs.Exact.{Countable}
+use Rattle.readings.proofs.Refuses.{count-ok, early-keeps, count-early, no-reading, past-limit, is-number, below-limit, late-fills, fills-name}
 use borrow.Author.Needs.{needs}
 use Rattle.readings.proofs.number.Statement.{statement}
 use Rattle.readings.proofs.number.Tie as tie
@@ -19,7 +20,7 @@ use Rattle.readings.proofs.number.Tie as tie
 abbrev early : tie.Start → List Row
 early s = countRows (s .args .image .now) (length (s .args .events .now)) (length (s .args .table .now))
 
-ok : (c : tie.Else1) → let s = c .before .before .before .before .before .before .args in CountOk (s .image .now) (length (s .events .now)) (length (s .table .now))
+ok : (c : tie.Else1) → let s = c .before .before .before .before .before .before .args in Countable (s .image .now) (length (s .events .now)) (length (s .table .now))
 ok c = count-ok _ _ _ _ (c .if1 .left) (c .before .count-refusal .ensures .number)
 
 -- past them the late ones decide

@@ -13,7 +13,8 @@ use Rattle.table.specs.Table.{limit}
 use Rattle.table.proofs.Tables.{counts-in}
 use Rattle.readings.specs.Count.{howMany}
 use Rattle.readings.specs.Reading.{lentRows}
-use Rattle.readings.proofs.Refuses.{LentOk, lent-ok, early-keeps, lent-early, late-fills, fills-name, number-ok}
+use Rattle.readings.specs.Exact.{Lendable}
+use Rattle.readings.proofs.Refuses.{lent-ok, early-keeps, lent-early, late-fills, fills-name, number-ok}
 use Rattle.readings.proofs.Pages.{size-within, page-fits, page-told}
 use borrow.Author.Needs.{needs}
 use Rattle.readings.proofs.page.Statement.{statement}
@@ -24,7 +25,7 @@ abbrev early : tie.Start → List Row
 early s = lentRows (s .args .image .now) (length (s .args .events .now)) (length (s .args .table .now)) (s .args .m * scriptWords (length (s .args .events .now))) (length (s .args .room .now))
 
 ok : (c : tie.Else1) → let s = c .before .before .before .before .before .before .args in
-    LentOk (s .image .now) (length (s .events .now)) (length (s .table .now)) (s .m * scriptWords (length (s .events .now))) (length (s .room .now))
+    Lendable (s .image .now) (length (s .events .now)) (length (s .table .now)) (s .m * scriptWords (length (s .events .now))) (length (s .room .now))
 ok c = lent-ok _ _ _ _ _ _ (c .if1 .left) (c .before .lent-refusal .ensures .number)
 
 -- past them the late ones decide

@@ -70,7 +70,6 @@ returns-3 c =
     (record {
       count = refl;
       column = f .ensures;
-      long = f .kept .1 .1 .0;
       admitted = c .top-has .ensures .events (omega arith);
     })
 

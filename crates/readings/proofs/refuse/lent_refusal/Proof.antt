@@ -12,7 +12,8 @@ use Rattle.image.proofs.Named.{names-before, names-behind}
 use Rattle.derivation.specs.Tree.{scriptWords}
 use Rattle.readings.specs.Count.{countRows}
 use Rattle.readings.specs.Reading.{roomRows}
-use Rattle.readings.proofs.Refuses.{CountOk, count-ok}
+use Rattle.readings.specs.Exact.{Countable}
+use Rattle.readings.proofs.Refuses.{count-ok}
 use borrow.Author.Needs.{needs}
 use Rattle.readings.proofs.refuse.lent_refusal.Statement.{statement}
 use Rattle.readings.proofs.refuse.lent_refusal.Tie as tie
@@ -23,7 +24,7 @@ early s = countRows (s .args .image .now) (s .args .n) (s .args .size)
 abbrev room : tie.Start → List Row
 room s = roomRows (s .args .m * scriptWords (s .args .n)) (s .args .space)
 
-ok : (c : tie.Else1) → let s = c .before .before .before .args in CountOk (s .image .now) (s .n) (s .size)
+ok : (c : tie.Else1) → let s = c .before .before .before .args in Countable (s .image .now) (s .n) (s .size)
 ok c = count-ok _ _ _ _ (c .if1 .left) (c .before .count-refusal .ensures .number)
 
 -- the words of m scripts of n events
