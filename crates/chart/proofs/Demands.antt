@@ -75,9 +75,9 @@ module _ (q : ℕ) (g : Grammar) (w : List ℕ) (some : 0 < length w) (before : 
     bound = a .bound;
   }
 
-pub judge-flagged : (b c : List ℕ) (q : ℕ) → decode c ≡ flagged q (decode b) → Accepted b → Accepted c → (w : List ℕ) → 0 < length w
+pub judge-flag : (b c : List ℕ) (q : ℕ) → decode c ≡ flagged q (decode b) → Accepted b → Accepted c → (w : List ℕ) → 0 < length w
     → (before : List ℕ) (r : Judged) (after : List ℕ) → JudgeIs b w before r after → JudgeIs c w before r after
-judge-flagged b c q e x y w some before r after p = record {
+judge-flag b c q e x y w some before r after p = record {
   number = rows-flagged b c x y (eventRows (length w) ++ chartRows (length w) (length before)) (r .number) (p .number);
   rule = names-flagged b c x y (eventRows (length w) ++ chartRows (length w) (length before)) (r .number) (p .number) (omega arith) (omega arith) (p .rule);
   refused = λ z. record { admitted = p .refused z .admitted; items = p .refused z .items; firings = p .refused z .firings; kept = p .refused z .kept };

@@ -4,3 +4,4 @@ pub mod Numbered
 pub mod Undone
 pub mod Pages
 pub mod Exactly
+pub mod Flags
