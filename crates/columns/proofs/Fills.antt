@@ -13,8 +13,8 @@ use Rattle.bits.specs.Sum.{sum}
 use Rattle.bits.specs.Bit.{bit}
 use Rattle.bits.proofs.Sums.{sum-cong, sum-front, sum-more, between-cong}
 use Rattle.derivation.specs.Grammar.{Grammar, pairCount, pairRule}
-use Rattle.derivation.specs.Chart.{column, cellAt, eventFirings, pairFirings, cellFirings, columnFirings}
-use Rattle.derivation.proofs.Columns.{column-mono, cells-column, cells-more}
+use Rattle.derivation.specs.Chart.{cellsBefore, cellAt, eventFirings, pairFirings, cellFirings, columnFirings}
+use Rattle.derivation.proofs.Columns.{before-mono, cells-column, cells-more}
 use Rattle.kernel.specs.declared.Fired.{Fired}
 use Rattle.kernel.specs.Fire.{conclusions, leafConclusions, LeafFired}
 use Rattle.columns.specs.Fill.{rd, inChart, cellConclusions, CellIs, CellFilled, Column, ColumnFilled, Columns, onesTo}
@@ -39,10 +39,10 @@ module _ (g : Grammar) where
 
   -- ---- a cell reads columns below its own, and cells above it in its own
   module _ (c d : List ℕ) (i k : ℕ)
-      (low : (y : ℕ) → y < column k → getD c y 0 ≡ getD d y 0)
-      (high : (y : ℕ) → cellAt i k < y → y < column k + k → getD c y 0 ≡ getD d y 0) where
+      (low : (y : ℕ) → y < cellsBefore k → getD c y 0 ≡ getD d y 0)
+      (high : (y : ℕ) → cellAt i k < y → y < cellsBefore k + k → getD c y 0 ≡ getD d y 0) where
     same-left : (j : ℕ) → i < j → j < k → rd c i j ≡ rd d i j
-    same-left j a b = low _ (omega (arith, column-mono j k b))
+    same-left j a b = low _ (omega (arith, before-mono j k b))
 
     same-right : (j : ℕ) → i < j → j < k → rd c j k ≡ rd d j k
     same-right j a b = high _ (omega arith) (omega arith)
@@ -77,7 +77,7 @@ module _ (g : Grammar) where
   }
 
   module _ (e q i j n m : ℕ) (c₀ c d : List ℕ) (was : Part e c₀ c q i n) (f : CellFilled g j (q + 1) c d m) (s : i ≡ j + 1) (b : i ≤ q) where
-    kept-low : (y : ℕ) → y < column (q + 1) → getD c y 0 ≡ getD d y 0
+    kept-low : (y : ℕ) → y < cellsBefore (q + 1) → getD c y 0 ≡ getD d y 0
     kept-low y l = sym (f .other y (λ z. omega arith))
 
     conclusions-kept : (x : ℕ) → j ≤ x → (A : ℕ) → cellConclusions g c x (q + 1) A ≡ cellConclusions g d x (q + 1) A
@@ -126,7 +126,7 @@ module _ (g : Grammar) where
   }
 
   -- ---- a column depends on no later word
-  module _ (e q : ℕ) (c d : List ℕ) (agree : (y : ℕ) → y < column (q + 1) + (q + 1) → getD c y 0 ≡ getD d y 0) where
+  module _ (e q : ℕ) (c d : List ℕ) (agree : (y : ℕ) → y < cellsBefore (q + 1) + (q + 1) → getD c y 0 ≡ getD d y 0) where
     column-stays : Column g e c q → Column g e d q
     column-stays r = record {
       leaf = λ A. ap (λ (x : ℕ). bit x A) (sym (agree _ (omega arith))) ∙ r .leaf A;
@@ -153,8 +153,8 @@ module _ (g : Grammar) where
   }
 
   module _ (w c₀ c d : List ℕ) (n m x : ℕ) (r : Columns g w c₀ c n m) (f : ColumnFilled g (getD w n 0) c d n x) where
-    agrees : (q : ℕ) → q < n → (y : ℕ) → y < column (q + 1) + (q + 1) → getD c y 0 ≡ getD d y 0
-    agrees q o y b = sym (f .frame .before y (omega (arith, column-mono (q + 1) (n + 1) (omega arith))))
+    agrees : (q : ℕ) → q < n → (y : ℕ) → y < cellsBefore (q + 1) + (q + 1) → getD c y 0 ≡ getD d y 0
+    agrees q o y b = sym (f .frame .before y (omega (arith, before-mono (q + 1) (n + 1) (omega arith))))
 
     pub columns-step : Columns g w c₀ d (n + 1) (m + x)
     columns-step = record {

@@ -16,7 +16,7 @@ use Rattle.bits.proofs.Truths.{same-other}
 use Rattle.bits.proofs.Words.{same-bits}
 use Rattle.derivation.specs.Grammar.{Grammar, leafCount, pairCount, eventRule, pairRule}
 use Rattle.derivation.specs.Sound.{Sound}
-use Rattle.derivation.specs.Chart.{column, cellAt, eventFirings, pairFirings, cellFirings, columnFirings}
+use Rattle.derivation.specs.Chart.{cellsBefore, cellAt, eventFirings, pairFirings, cellFirings, columnFirings}
 use Rattle.derivation.proofs.Sound.{leaf-fits, pair-fits-at}
 use Rattle.kernel.specs.Fire.{hit, hits, conclusions, leafConclusions}
 use Rattle.columns.specs.Fill.{rd, inChart, cellConclusions, Column, ColumnFilled}
@@ -42,20 +42,20 @@ module _ (g : Grammar) (e : ℕ) (c d : List ℕ) (q : ℕ) (p : Column g e c q)
 
 -- ---- over the same words
 module _ (g : Grammar) (e : ℕ) (before c d : List ℕ) (q n m : ℕ) (f : ColumnFilled g e before c q n) (h : ColumnFilled g e before d q m) where
-  same-low : (y : ℕ) → y < column (q + 1) → getD c y 0 ≡ getD d y 0
+  same-low : (y : ℕ) → y < cellsBefore (q + 1) → getD c y 0 ≡ getD d y 0
   same-low y l = f .frame .before y (omega arith) ∙ sym (h .frame .before y (omega arith))
 
   alike : (i : ℕ) → i < q → ((x : ℕ) → i < x → x ≤ q → rd c x (q + 1) ≡ rd d x (q + 1))
       → (A : ℕ) → cellConclusions g c i (q + 1) A ≡ cellConclusions g d i (q + 1) A
   alike i l behind = conclusions-stay g c d i (q + 1) same-low at
     where
-      at : (y : ℕ) → cellAt i (q + 1) < y → y < column (q + 1) + (q + 1) → getD c y 0 ≡ getD d y 0
+      at : (y : ℕ) → cellAt i (q + 1) < y → y < cellsBefore (q + 1) + (q + 1) → getD c y 0 ≡ getD d y 0
       at y a b =
-          let z : column (q + 1) + (y - column (q + 1)) ≡ y = omega arith in
-          rw z at (behind (y - column (q + 1)) (omega arith) (omega arith))
+          let z : cellsBefore (q + 1) + (y - cellsBefore (q + 1)) ≡ y = omega arith in
+          rw z at (behind (y - cellsBefore (q + 1)) (omega arith) (omega arith))
 
   every-same : (y : ℕ) → getD c y 0 ≡ getD d y 0
-  every-same = around c d (column (q + 1)) (q + 1) same-low (λ x l. cells-same g e c d q (f .column) (h .column) alike x (omega arith))
+  every-same = around c d (cellsBefore (q + 1)) (q + 1) same-low (λ x l. cells-same g e c d q (f .column) (h .column) alike x (omega arith))
       (λ y l. f .frame .after y (omega arith) ∙ sym (h .frame .after y (omega arith)))
 
   -- every word, and the firings

@@ -19,11 +19,11 @@ use Rattle.bits.proofs.Frames.{framed-none, framed-set, framed-wider, framed-on
 use Rattle.bits.proofs.Sums.{sum-more, sum-cong, sum-zero, sum-front, sum-split, sum-add, between-none, between-cong, some-join}
 use Rattle.bits.proofs.Truths.{lt-or-ge}
 use Rattle.derivation.specs.Grammar.{Grammar}
-use Rattle.derivation.specs.Chart.{column, cellAt, eventFirings, pairFirings, cellFirings, columnFirings}
-use Rattle.derivation.proofs.Columns.{column-mono}
+use Rattle.derivation.specs.Chart.{cellsBefore, cellAt, eventFirings, pairFirings, cellFirings, columnFirings}
+use Rattle.derivation.proofs.Columns.{before-mono}
 use Rattle.kernel.specs.declared.Fired.{Fired}
 use Rattle.kernel.specs.Fire.{hit, hits, conclusions, leafConclusions, Concluded, LeafFired}
-use Rattle.kernel.specs.Follow.{Ready}
+use Rattle.kernel.specs.Apply.{Ready}
 use Rattle.kernel.proofs.Pairs.{none-right}
 use Rattle.kernel.proofs.Readies.{ready-part}
 use Rattle.columns.specs.Fill.{rd, inChart, cellConclusions, Standing, Pushed, ColumnFilled}
@@ -78,7 +78,7 @@ module _ (g : Grammar) where
 
   -- the left parts lie in an older column
   left-stays : (j k i m n : ℕ) (c₀ c : List ℕ) → i < j → j < k → Pushed g j k c₀ c m n → rd c i j ≡ rd c₀ i j
-  left-stays j k i m n c₀ c inside short was = was .frame .before _ (omega (arith, column-mono j k short))
+  left-stays j k i m n c₀ c inside short was = was .frame .before _ (omega (arith, before-mono j k short))
 
   pub left-ready : (j k i m n u v w : ℕ) (c₀ c t : List ℕ) → i < j → j < k → w ≡ rd c i j → Pushed g j k c₀ c m n → Standing c₀ j j u → Ready g v u t → Ready g v w t
   left-ready j k i m n u v w c₀ c t inside short e was all r =
@@ -136,7 +136,7 @@ module _ (g : Grammar) where
 
   module _ (e q p n m : ℕ) (c₀ c d : List ℕ) (inside : p + 1 ≤ q) (was : Late e c₀ c q (p + 1) n) (push : Pushed g (p + 1) (q + 1) c d (p + 1) m) where
     left-same : (i x : ℕ) → i < x → x < q + 1 → rd d i x ≡ rd c i x
-    left-same i x l h = push .frame .before _ (omega (arith, column-mono x (q + 1) h))
+    left-same i x l h = push .frame .before _ (omega (arith, before-mono x (q + 1) h))
 
     right-same : (x : ℕ) → p + 1 ≤ x → rd d x (q + 1) ≡ rd c x (q + 1)
     right-same x l = push .frame .after _ (omega arith)

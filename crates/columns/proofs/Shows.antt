@@ -16,8 +16,8 @@ use Rattle.bits.specs.Bit.{bit}
 use Rattle.bits.proofs.Bits.{bit-of-zero}
 use Rattle.bits.proofs.Sums.{sum-cong, sum-zero, between-zero, between-cong, between-swap, between-scale}
 use Rattle.derivation.specs.Grammar.{Grammar, pairCount, pairRule}
-use Rattle.derivation.specs.Chart.{column, cellAt, eventFirings, pairFirings, cellFirings, columnFirings}
-use Rattle.derivation.proofs.Columns.{column-mono}
+use Rattle.derivation.specs.Chart.{cellsBefore, cellAt, eventFirings, pairFirings, cellFirings, columnFirings}
+use Rattle.derivation.proofs.Columns.{before-mono}
 use Rattle.marks.specs.Mark.{meetings}
 use Rattle.marks.specs.Shown.{Filled, Lefts, Rights, Shown, CellMarked}
 use Rattle.marks.proofs.Shows.{met-between, shown-step, shown-empty}
@@ -35,8 +35,8 @@ shown-stored c t v u x i k at w inside e h marked =
     is = sym (ap (λ (y : ℕ). getD (set c at w) y 0) (sym e) ∙ getD-set-same c at w 0 h)
 
     elsewhere : (y j : ℕ) → y < j → (j < k) ⊎ ((j ≡ k) × (i < y)) → rd (set c at w) y j ≡ rd c y j
-    elsewhere y j l (inl o) = getD-set-other c at _ w 0 (λ q. omega (arith, q, e, column-mono j k o))
-    elsewhere y j l (inr o) = getD-set-other c at _ w 0 (λ q. omega (arith, q, e, ap column (o .0), o .1))
+    elsewhere y j l (inl o) = getD-set-other c at _ w 0 (λ q. omega (arith, q, e, before-mono j k o))
+    elsewhere y j l (inr o) = getD-set-other c at _ w 0 (λ q. omega (arith, q, e, ap cellsBefore (o .0), o .1))
 
 module _ (g : Grammar) (c t u : List ℕ) (i k : ℕ) (inside : i < k) (rows : Lefts 64 (inChart c) t (i + 1) k) (cols : Rights 64 (inChart c) u (i + 1) k)
     (fits : (b : ℕ) → b < pairCount g → (pairRule g b .left < 64) × (pairRule g b .right < 64)) where
@@ -106,5 +106,5 @@ module _ (g : Grammar) (e q at : ℕ) (c d : List ℕ) (f : Fired) (is : at ≡ 
       (λ x a l s. ap (λ (y : ℕ). bit y a) (empty x (omega arith)) ∙ bit-of-zero a) (λ x j a l o s. ap (λ (y : ℕ). bit y a) (elsewhere x j l o))
     where
       elsewhere : (x j : ℕ) → x < j → Filled q (q + 1) x j → rd d x j ≡ rd (set c at (f .word)) x j
-      elsewhere x j l (inl o) = frame .before _ (omega (arith, column-mono j (q + 1) o))
-      elsewhere x j l (inr o) = frame .after _ (omega (arith, ap column (o .0), o .1))
+      elsewhere x j l (inl o) = frame .before _ (omega (arith, before-mono j (q + 1) o))
+      elsewhere x j l (inr o) = frame .after _ (omega (arith, ap cellsBefore (o .0), o .1))

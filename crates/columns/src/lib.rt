@@ -4,14 +4,14 @@ ghost use mathlib.Core.Path.{_≡_};
 ghost use Prim.Native.Nat.{_+_, _≤_, _<_, _^_};
 ghost use lib.ListN.{length};
 ghost use Rattle.derivation.specs.Grammar.{leafCount};
-ghost use Rattle.derivation.specs.Chart.{column, cellAt, cells};
+ghost use Rattle.derivation.specs.Chart.{cellsBefore, cellAt, cells};
 ghost use Rattle.layout.specs.Layout.{decode};
 ghost use Rattle.image.specs.Image.{Accepted};
 ghost use Rattle.groups.specs.Group.{Grouped};
 ghost use Rattle.columns.specs.Fill.{rd, inChart, CellFilled, Standing, Pushed, ColumnFilled, Columns};
 ghost use Rattle.bits.specs.Frame.{Framed, Zeros};
 ghost use Rattle.kernel.specs.Fire.{Heard};
-ghost use Rattle.kernel.specs.Follow.{readyWords};
+ghost use Rattle.kernel.specs.Apply.{readyWords};
 ghost use Rattle.marks.specs.Shown.{InUse, Lefts, Shown};
 
 // The word of cell (i, k).
@@ -26,7 +26,7 @@ pub fn read_cell(chart: &[u64], i: usize, k: usize) -> u64
 // Works out cell (i, k) by the marks, all splits at once, stores it and marks its symbols.
 fn fill_cell(
     image: &[u8],
-    table: &[u64; 768],
+    grouped: &[u64; 768],
     lefts: &mut [u64],
     rights: &mut [u64],
     chart: &mut [u64],
@@ -34,13 +34,13 @@ fn fill_cell(
     k: usize,
 ) -> u64
     requires { ⌜ Accepted (now image) ⌝ }
-    requires { ⌜ Grouped (decode (now image)) (now table) ⌝ }
-    requires { ⌜ (i < k) × (k < 65536) × (column k + k ≤ length (now chart)) ⌝ }
+    requires { ⌜ Grouped (decode (now image)) (now grouped) ⌝ }
+    requires { ⌜ (i < k) × (k < 65536) × (cellsBefore k + k ≤ length (now chart)) ⌝ }
     requires { ⌜ InUse (now lefts) × Shown 64 (inChart (now chart)) (now lefts) (now rights) (i + 1) k ⌝ }
     ensures { λ n. ⌜ CellFilled (decode (now (image .entry))) i k (now (chart .entry)) (now (chart .exit)) n × (n ≤ 2 ^ 24)
         × Shown 64 (inChart (now (chart .exit))) (now (lefts .exit)) (now (rights .exit)) i k ⌝ }
 {
-    let f = kernel::fire_marks(image, table, lefts, i, rights);
+    let f = kernel::fire_marks(image, grouped, lefts, i, rights);
     let at = derivation::cell_at(i, k);
     chart[at] = f.word;
     marks::mark_cell(lefts, rights, i, k, f.word);
@@ -60,7 +60,7 @@ pub fn clear_cells(chart: &mut [u64], first: usize, n: usize)
 
 // All symbols of the cells that end at j.
 fn standing(chart: &[u64], j: usize) -> u64
-    requires { ⌜ (j < 65536) × (column j + j ≤ length (now chart)) ⌝ }
+    requires { ⌜ (j < 65536) × (cellsBefore j + j ≤ length (now chart)) ⌝ }
     ensures { λ u. ⌜ Standing (now (chart .entry)) j j u ⌝ }
 {
     let mut all: u64 = 0;
@@ -74,16 +74,16 @@ fn standing(chart: &[u64], j: usize) -> u64
 // symbol make is worked out once for all left parts that have it, into `made`. Answers the split's firings.
 fn push_split(
     image: &[u8],
-    table: &[u64; 768],
+    grouped: &[u64; 768],
     made: &mut [u64; 128],
     chart: &mut [u64],
     j: usize,
     k: usize,
 ) -> u64
     requires { ⌜ Accepted (now image) ⌝ }
-    requires { ⌜ Grouped (decode (now image)) (now table) ⌝ }
+    requires { ⌜ Grouped (decode (now image)) (now grouped) ⌝ }
     requires { ⌜ length (now made) ≡ readyWords ⌝ }
-    requires { ⌜ (j < k) × (k < 65536) × (column k + k ≤ length (now chart)) ⌝ }
+    requires { ⌜ (j < k) × (k < 65536) × (cellsBefore k + k ≤ length (now chart)) ⌝ }
     ensures { λ n. ⌜ Pushed (decode (now (image .entry))) j k (now (chart .entry)) (now (chart .exit)) j n × (n ≤ 2 ^ 24)
         × (length (now (made .exit)) ≡ readyWords) ⌝ }
 {
@@ -92,7 +92,7 @@ fn push_split(
         return 0;
     }
     let wanted = standing(chart, j);
-    kernel::make_ready(image, table, wanted, right, made);
+    kernel::make_ready(image, grouped, wanted, right, made);
     let first = derivation::cell_at(0, k);
     let mut count: u64 = 0;
     for i in 0..j {
@@ -109,14 +109,14 @@ fn push_split(
 // Column q without marks: the cells that end at q + 1, split after split from the last down, so that each right part is whole when it is pushed.
 fn push_cells(
     image: &[u8],
-    table: &[u64; 768],
+    grouped: &[u64; 768],
     heard: &[u64],
     event: usize,
     chart: &mut [u64],
     q: usize,
 ) -> u64
     requires { ⌜ Accepted (now image) ⌝ }
-    requires { ⌜ Grouped (decode (now image)) (now table) ⌝ }
+    requires { ⌜ Grouped (decode (now image)) (now grouped) ⌝ }
     requires { ⌜ (q + 1 < 65536) × (cellAt q (q + 1) < length (now chart)) ⌝ }
     requires { ⌜ (16 ≤ length (now heard) → Heard (decode (now image)) (now heard) (leafCount (decode (now image)))) ⌝ }
     ensures { λ n. ⌜ ColumnFilled (decode (now (image .entry))) event (now (chart .entry)) (now (chart .exit)) q n × (n ≤ 2 ^ 41) ⌝ }
@@ -131,7 +131,7 @@ fn push_cells(
     let mut count = leaf.count;
     for x in 0..q {
         let j = q - x;
-        count += push_split(image, table, &mut made, chart, j, k);
+        count += push_split(image, grouped, &mut made, chart, j, k);
     }
     count
 }
@@ -139,7 +139,7 @@ fn push_cells(
 // Column q by marks: the cells from the last down. Where its event makes no symbol, no stretch that ends with it has one.
 fn fill_cells(
     image: &[u8],
-    table: &[u64; 768],
+    grouped: &[u64; 768],
     heard: &[u64],
     lefts: &mut [u64],
     rights: &mut [u64],
@@ -148,7 +148,7 @@ fn fill_cells(
     q: usize,
 ) -> u64
     requires { ⌜ Accepted (now image) ⌝ }
-    requires { ⌜ Grouped (decode (now image)) (now table) ⌝ }
+    requires { ⌜ Grouped (decode (now image)) (now grouped) ⌝ }
     requires { ⌜ (q + 1 < 65536) × (cellAt q (q + 1) < length (now chart)) ⌝ }
     requires { ⌜ InUse (now lefts) × Shown 64 (inChart (now chart)) (now lefts) (now rights) (q + 1) (q + 1) ⌝ }
     requires { ⌜ (16 ≤ length (now heard) → Heard (decode (now image)) (now heard) (leafCount (decode (now image)))) ⌝ }
@@ -168,7 +168,7 @@ fn fill_cells(
     let mut count = leaf.count;
     for x in 0..q {
         let i = q - 1 - x;
-        count += fill_cell(image, table, lefts, rights, chart, i, k);
+        count += fill_cell(image, grouped, lefts, rights, chart, i, k);
     }
     count
 }
@@ -176,7 +176,7 @@ fn fill_cells(
 // Column q, where there are marks by them, with those of its right parts.
 fn fill_column(
     image: &[u8],
-    table: &[u64; 768],
+    grouped: &[u64; 768],
     heard: &[u64],
     lefts: &mut [u64],
     event: usize,
@@ -184,17 +184,17 @@ fn fill_column(
     q: usize,
 ) -> u64
     requires { ⌜ Accepted (now image) ⌝ }
-    requires { ⌜ Grouped (decode (now image)) (now table) ⌝ }
+    requires { ⌜ Grouped (decode (now image)) (now grouped) ⌝ }
     requires { ⌜ (q + 1 < 65536) × (cellAt q (q + 1) < length (now chart)) × (InUse (now lefts) → Lefts 64 (inChart (now chart)) (now lefts) (q + 1) (q + 1)) ⌝ }
     requires { ⌜ (16 ≤ length (now heard) → Heard (decode (now image)) (now heard) (leafCount (decode (now image)))) ⌝ }
     ensures { λ n. ⌜ ColumnFilled (decode (now (image .entry))) event (now (chart .entry)) (now (chart .exit)) q n × (n ≤ 2 ^ 41)
         × (InUse (now (lefts .exit)) → Lefts 64 (inChart (now (chart .exit))) (now (lefts .exit)) 0 (q + 1)) ⌝ }
 {
     if lefts.len() < marks::LEFTS {
-        return push_cells(image, table, heard, event, chart, q);
+        return push_cells(image, grouped, heard, event, chart, q);
     }
     let mut rights = [0u64; marks::BLOCK];
-    fill_cells(image, table, heard, lefts, &mut rights, event, chart, q)
+    fill_cells(image, grouped, heard, lefts, &mut rights, event, chart, q)
 }
 
 // Column q alone, without marks, which would have to be made of all the older columns first.
@@ -203,23 +203,23 @@ pub fn fill_one(image: &[u8], event: usize, chart: &mut [u64], q: usize) -> u64
     requires { ⌜ (q + 1 < 65536) × (cellAt q (q + 1) < length (now chart)) ⌝ }
     ensures { λ n. ⌜ ColumnFilled (decode (now (image .entry))) event (now (chart .entry)) (now (chart .exit)) q n ⌝ }
 {
-    let mut table = [0u64; 768];
-    groups::group_rules(image, &mut table);
+    let mut grouped = [0u64; 768];
+    groups::group_rules(image, &mut grouped);
     let unheard = [0u64; 1];
-    push_cells(image, &table, &unheard, event, chart, q)
+    push_cells(image, &grouped, &unheard, event, chart, q)
 }
 
 // All columns of a record.
 fn fill_columns(
     image: &[u8],
-    table: &[u64; 768],
+    grouped: &[u64; 768],
     heard: &[u64],
     lefts: &mut [u64],
     events: &[u16],
     chart: &mut [u64],
 ) -> u64
     requires { ⌜ Accepted (now image) ⌝ }
-    requires { ⌜ Grouped (decode (now image)) (now table) ⌝ }
+    requires { ⌜ Grouped (decode (now image)) (now grouped) ⌝ }
     requires { ⌜ (length (now events) < 65536) × (cells (length (now events)) ≤ length (now chart)) ⌝ }
     requires { ⌜ (InUse (now lefts) → (length (now events) ≤ 96) × Lefts 64 (inChart (now chart)) (now lefts) 1 1) ⌝ }
     requires { ⌜ (16 ≤ length (now heard) → Heard (decode (now image)) (now heard) (leafCount (decode (now image)))) ⌝ }
@@ -228,7 +228,7 @@ fn fill_columns(
     let mut count: u64 = 0;
     for q in 0..events.len() {
         let event = events[q] as usize;
-        count += fill_column(image, table, heard, lefts, event, chart, q);
+        count += fill_column(image, grouped, heard, lefts, event, chart, q);
     }
     count
 }
@@ -239,14 +239,14 @@ pub fn fill_chart(image: &[u8], events: &[u16], chart: &mut [u64]) -> u64
     requires { ⌜ (length (now events) < 65536) × (cells (length (now events)) ≤ length (now chart)) ⌝ }
     ensures { λ n. ⌜ Columns (decode (now (image .entry))) (now (events .entry)) (now (chart .entry)) (now (chart .exit)) (length (now (events .entry))) n ⌝ }
 {
-    let mut table = [0u64; 768];
-    groups::group_rules(image, &mut table);
+    let mut grouped = [0u64; 768];
+    groups::group_rules(image, &mut grouped);
     if marks::pay(events.len()) {
         let heard = kernel::events_of(image);
         let mut lefts = [0u64; marks::LEFTS];
-        return fill_columns(image, &table, &heard, &mut lefts, events, chart);
+        return fill_columns(image, &grouped, &heard, &mut lefts, events, chart);
     }
     let unheard = [0u64; 1];
     let mut none = [0u64; 1];
-    fill_columns(image, &table, &unheard, &mut none, events, chart)
+    fill_columns(image, &grouped, &unheard, &mut none, events, chart)
 }

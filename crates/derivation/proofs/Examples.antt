@@ -15,7 +15,7 @@ use Rattle.derivation.specs.Grammar.{Grammar}
 use Rattle.derivation.specs.Tree.{script}
 use Rattle.derivation.specs.Reading.{quiet, Admitted, spelling}
 use Rattle.derivation.specs.Derivations.{join, gate, cross, leafAt, nodesAt, splitsAt, level, trees, derivations, readings, scripts, count, known}
-use Rattle.derivation.specs.Chart.{column, cellAt, cell, items, eventFirings, pairFirings, cellFirings, columnFirings, firings}
+use Rattle.derivation.specs.Chart.{cellsBefore, cellAt, cell, items, eventFirings, pairFirings, cellFirings, columnFirings, firings}
 use Rattle.derivation.specs.Examples.{chain, quietChain, stop, Detail, reading, word, Example, example, DetailHolds, RowHolds, examples}
 use Rattle.derivation.proofs.Lists.{_∈_, truth}
 use Rattle.derivation.proofs.Numbering.{readings-numbered}
@@ -58,7 +58,7 @@ stated e = record {
 }
 
 computes : map computed examples ≡ map stated examples
-unfolding examples example computed stated detail said script spelling scripts chain quietChain stop column cell readings known items firings eventFirings pairFirings cellFirings columnFirings count derivations trees level join sum between same cross gate leafAt nodesAt splitsAt
+unfolding examples example computed stated detail said script spelling scripts chain quietChain stop cellsBefore cell readings known items firings eventFirings pairFirings cellFirings columnFirings count derivations trees level join sum between same cross gate leafAt nodesAt splitsAt
 computes = refl
 
 -- ---- from the values to what the row says

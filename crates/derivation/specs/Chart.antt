@@ -8,12 +8,12 @@ use Rattle.bits.specs.Truth.{same}
 use Rattle.bits.specs.Sum.{sum, between}
 use Rattle.derivation.specs.Grammar.{Grammar, leafCount, pairCount, eventRule, pairRule}
 
--- cell (i, k), 0 ≤ i < k ≤ n, is word k (k - 1) / 2 + i: the cells that end at k stand together, from word `column k` on
-unfoldable pub column : ℕ → ℕ
-column k = k * (k - 1) / 2
+-- cell (i, k), 0 ≤ i < k ≤ n, is word k (k - 1) / 2 + i: the cells that end at k stand together, from word `cellsBefore k` on
+unfoldable pub cellsBefore : ℕ → ℕ
+cellsBefore k = k * (k - 1) / 2
 
 abbrev pub cellAt : ℕ → ℕ → ℕ
-cellAt i k = column k + i
+cellAt i k = cellsBefore k + i
 
 -- how many cells a record of n events has
 unfoldable pub cells : ℕ → ℕ

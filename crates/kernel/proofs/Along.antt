@@ -20,8 +20,8 @@ use Rattle.marks.specs.Mark.{stands, meetings, Apart, SeenIn}
 use Rattle.marks.proofs.Marks.{split-lt}
 use Rattle.kernel.specs.declared.Fired.{Fired}
 use Rattle.kernel.specs.Fire.{met, Met}
-use Rattle.kernel.specs.Follow.{along, Followed}
-use Rattle.kernel.proofs.Unions.{needed-absent, followed-unmet}
+use Rattle.kernel.specs.Apply.{along, Applied}
+use Rattle.kernel.proofs.Unions.{needed-absent, applied-unmet}
 use Rattle.kernel.proofs.Visits.{ruleMatches, ruleConclusions, Visit, visit-word, visit-count}
 
 pub along-one : (t : List ℕ) (r a : ℕ) (u : List ℕ) (c : ℕ) → c < 64 → along t r a u (2 ^ c) ≡ meetings t r a u c
@@ -72,9 +72,9 @@ unseen-right t r a w u c seen l z = sum-zero 128 _ (λ j h. ap (λ (x : ℕ). st
 
 -- where none of a group's right symbols is seen, none of its rules matches
 pub group-unmet : (g : Grammar) (places : List ℕ) → Grouped g places → ((b : ℕ) → b < pairCount g → (pairRule g b .left < 64) × (pairRule g b .right < 64))
-    → (t : List ℕ) (r : ℕ) (u : List ℕ) (w a : ℕ) → SeenIn u 0 w → a < 64 → bitAnd w (groupNeeds places a) ≡ 0 → (f : Fired) → Followed g (along t r a u) a f f
+    → (t : List ℕ) (r : ℕ) (u : List ℕ) (w a : ℕ) → SeenIn u 0 w → a < 64 → bitAnd w (groupNeeds places a) ≡ 0 → (f : Fired) → Applied g (along t r a u) a f f
 group-unmet g places p fits t r u w a seen small none f =
-    followed-unmet g a (along t r a u) (λ b l e. along-one t r a u _ (fits b l .1) ∙ unseen-right t r a w u _ seen (fits b l .1) (absent b l e)) f
+    applied-unmet g a (along t r a u) (λ b l e. along-one t r a u _ (fits b l .1) ∙ unseen-right t r a w u _ seen (fits b l .1) (absent b l e)) f
   where
     absent : (b : ℕ) → b < pairCount g → pairRule g b .left ≡ a → bit w (pairRule g b .right) ≡ 0
     absent b l e = needed-absent g places p w a small none b l e

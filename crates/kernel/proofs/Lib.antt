@@ -1,4 +1,4 @@
-pub mod Follows
+pub mod Applies
 pub mod Unions
 pub mod Visits
 pub mod Leaves

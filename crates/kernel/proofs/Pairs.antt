@@ -12,7 +12,7 @@ use Rattle.bits.proofs.Words.{meet-one}
 use Rattle.derivation.specs.Grammar.{Grammar, pairCount, pairRule}
 use Rattle.kernel.specs.declared.Fired.{Fired}
 use Rattle.kernel.specs.Fire.{hit, hits, conclusions, Concluded}
-use Rattle.kernel.specs.Follow.{over}
+use Rattle.kernel.specs.Apply.{over}
 use Rattle.kernel.proofs.Visits.{ruleMatches, ruleConclusions, Visit, visit-word, visit-count}
 
 pub over-is : (v R : ℕ) → over v R ≡ meet v R

@@ -16,7 +16,7 @@ use Rattle.bits.proofs.Bits.{bit-lt, bit-or, bit-of-zero}
 use Rattle.derivation.specs.Grammar.{Grammar, pairCount, pairRule}
 use Rattle.groups.specs.Group.{byLeft}
 use Rattle.kernel.specs.declared.Fired.{Fired}
-use Rattle.kernel.specs.Follow.{matching, over, Followed, readyWords, ReadyAt, Ready}
+use Rattle.kernel.specs.Apply.{matching, over, Applied, readyWords, ReadyAt, Ready}
 use Rattle.kernel.proofs.Pairs.{over-le}
 
 module _ (g : Grammar) (v u : ℕ) where
@@ -29,7 +29,7 @@ module _ (g : Grammar) (v u : ℕ) where
   made-none t l = record { long = l; at = λ a h z. absurd (omega (arith, h, z)) }
 
   module _ (rest s less : ℕ) (t : List ℕ) (f : Fired) (small : s < 64) (w : Without rest s less) (m : Made rest t)
-      (is : Followed g (over v) s (record { word = 0; count = 0 }) f) where
+      (is : Applied g (over v) s (record { word = 0; count = 0 }) f) where
     one : List ℕ
     one = set t (2 * s) (f .word)
 
@@ -37,7 +37,7 @@ module _ (g : Grammar) (v u : ℕ) where
     both = set one (2 * s + 1) (f .count)
 
     -- told by its two words
-    told : (a : ℕ) (h : Fired) → getD both (2 * a) 0 ≡ h .word → getD both (2 * a + 1) 0 ≡ h .count → Followed g (over v) a (record { word = 0; count = 0 }) h → ReadyAt g v a both
+    told : (a : ℕ) (h : Fired) → getD both (2 * a) 0 ≡ h .word → getD both (2 * a + 1) 0 ≡ h .count → Applied g (over v) a (record { word = 0; count = 0 }) h → ReadyAt g v a both
     told a h e d o = record { made = record { word = λ A. ap (λ (z : ℕ). bit z A) e ∙ o .word A; count = d ∙ o .count } }
 
     here : ReadyAt g v s both
@@ -73,7 +73,7 @@ module _ (g : Grammar) (v u : ℕ) where
 module _ (g : Grammar) (v : ℕ) where
   -- ---- into a cell
   pub taken : (t : List ℕ) (a : ℕ) (was now : Fired) → ReadyAt g v a t → now .word ≡ bitOr (was .word) (getD t (2 * a) 0)
-      → now .count ≡ was .count + getD t (2 * a + 1) 0 → Followed g (over v) a was now
+      → now .count ≡ was .count + getD t (2 * a + 1) 0 → Applied g (over v) a was now
   taken t a was now r w c = record {
     word = λ A. ap (λ (x : ℕ). bit x A) w ∙ bit-or (was .word) (getD t (2 * a) 0) A ∙ ap (max (bit (was .word) A)) (r .made .word A ∙ omega (arith, bit-of-zero A));
     count = omega (arith, c, r .made .count);

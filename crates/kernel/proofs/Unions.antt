@@ -17,7 +17,7 @@ use Rattle.bits.proofs.Words.{meet-one}
 use Rattle.derivation.specs.Grammar.{Grammar, pairCount, pairRule}
 use Rattle.kernel.specs.declared.Fired.{Fired}
 use Rattle.groups.specs.Group.{lefts, byLeft, groupFrom, groupTo, groupNeeds, groupGives, rightIs, symbolIs, Grouped}
-use Rattle.kernel.specs.Follow.{matching, concluding, over, Followed}
+use Rattle.kernel.specs.Apply.{matching, concluding, over, Applied}
 
 -- what holds of each rule of a group may be put for it in a sum over the group
 module _ (g : Grammar) (a : ℕ) (F H : ℕ → ℕ → ℕ)
@@ -41,10 +41,10 @@ unfolding byLeft lefts
 byLeft-ones g a n = sum-cong n _ _ (λ b l. mul-one _)
 
 -- none of a group's rules matches
-pub followed-unmet : (g : Grammar) (a : ℕ) (m : ℕ → ℕ) → ((b : ℕ) → b < pairCount g → pairRule g b .left ≡ a → m (2 ^ pairRule g b .right) ≡ 0)
-    → (f : Fired) → Followed g m a f f
+pub applied-unmet : (g : Grammar) (a : ℕ) (m : ℕ → ℕ) → ((b : ℕ) → b < pairCount g → pairRule g b .left ≡ a → m (2 ^ pairRule g b .right) ≡ 0)
+    → (f : Fired) → Applied g m a f f
 unfolding matching concluding
-followed-unmet g a m unmet f = record {
+applied-unmet g a m unmet f = record {
   word = λ A. sym (max-zero (bit (f .word) A)) ∙ ap (λ (s : ℕ). max (bit (f .word) A) (min 1 s))
       (sym (byLeft-cong g a _ (λ R S. 0) (λ b l e. ap (λ (x : ℕ). x * bit (2 ^ pairRule g b .symbol) A) (unmet b l e) ∙ zero-mul _) ∙ byLeft-none g a (pairCount g)));
   count = sym (add-zero (f .count)) ∙ ap (λ (s : ℕ). f .count + s) (sym (byLeft-cong g a _ (λ R S. 0) unmet ∙ byLeft-none g a (pairCount g)));
@@ -74,9 +74,9 @@ module _ (g : Grammar) (t : List ℕ) (p : Grouped g t) (v a : ℕ) (small : a <
         let z : bit (bitAnd v (groupNeeds t a)) (pairRule g b .right) ≡ 0 = ap (λ (x : ℕ). bit x (pairRule g b .right)) none ∙ bit-of-zero _ in
         omega (arith, both b, right-stands b l e)
 
-    pub followed-none : (f : Fired) → Followed g (over v) a f f
+    pub applied-none : (f : Fired) → Applied g (over v) a f f
     unfolding over
-    followed-none = followed-unmet g a (over v) (λ b l e. meet-one v (pairRule g b .right) ∙ needed-absent b l e)
+    applied-none = applied-unmet g a (over v) (λ b l e. meet-one v (pairRule g b .right) ∙ needed-absent b l e)
 
   -- all of them match
   module _ (all : bitAnd v (groupNeeds t a) ≡ groupNeeds t a) where
@@ -85,10 +85,10 @@ module _ (g : Grammar) (t : List ℕ) (p : Grouped g t) (v a : ℕ) (small : a <
         let z : bit (bitAnd v (groupNeeds t a)) (pairRule g b .right) ≡ 1 = ap (λ (x : ℕ). bit x (pairRule g b .right)) all ∙ right-stands b l e in
         meet-one v (pairRule g b .right) ∙ omega (arith, both b, bit-lt v (pairRule g b .right))
 
-    pub followed-all : (was now : Fired) → now .word ≡ bitOr (was .word) (groupGives t a) → now .count ≡ was .count + (groupTo t a - groupFrom t a)
-        → Followed g (over v) a was now
+    pub applied-all : (was now : Fired) → now .word ≡ bitOr (was .word) (groupGives t a) → now .count ≡ was .count + (groupTo t a - groupFrom t a)
+        → Applied g (over v) a was now
     unfolding matching concluding over symbolIs
-    followed-all was now w c = record {
+    applied-all was now w c = record {
       word = λ A.
           ap (λ (x : ℕ). bit x A) w ∙ bit-or (was .word) (groupGives t a) A
           ∙ ap (max (bit (was .word) A)) (p .gives a small A

@@ -14,7 +14,7 @@ use Rattle.bits.proofs.Visited.{visited, none-visited, all-visited, part-less, 
 use Rattle.derivation.specs.Grammar.{Grammar, pairCount, pairRule}
 use Rattle.groups.specs.Group.{byLeft}
 use Rattle.kernel.specs.declared.Fired.{Fired}
-use Rattle.kernel.specs.Follow.{matching, concluding, Followed}
+use Rattle.kernel.specs.Apply.{matching, concluding, Applied}
 
 -- m s R: how often the left symbol s and a right symbol with the word R match
 module _ (g : Grammar) (u : ℕ) (m : ℕ → ℕ → ℕ) where
@@ -38,7 +38,7 @@ module _ (g : Grammar) (u : ℕ) (m : ℕ → ℕ → ℕ) where
     count = sym (add-zero (f .count)) ∙ ap (λ (s : ℕ). f .count + s) (sym (none-visited u _));
   }
 
-  pub visit-step : (was f h : Fired) (rest a less : ℕ) → a < 64 → Without rest a less → Visit was f rest → Followed g (m a) a f h → Visit was h less
+  pub visit-step : (was f h : Fired) (rest a less : ℕ) → a < 64 → Without rest a less → Visit was f rest → Applied g (m a) a f h → Visit was h less
   visit-step was f h rest a less small n w o = record {
     part = part-less u rest a less (w .part) n;
     word = λ A.

@@ -1,2 +1,2 @@
 pub mod Fire
-pub mod Follow
+pub mod Apply

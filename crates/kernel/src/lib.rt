@@ -10,7 +10,7 @@ ghost use Rattle.image.specs.Image.{Accepted};
 ghost use Rattle.kernel.specs.Fire.{Noted, Concluded, Met, LeafFired, Heard};
 ghost use Rattle.groups.specs.Group.{Grouped};
 ghost use Rattle.marks.specs.Mark.{Told, SeenIn};
-ghost use Rattle.kernel.specs.Follow.{Followed, readyWords, ReadyAt, Ready, over, along};
+ghost use Rattle.kernel.specs.Apply.{Applied, readyWords, ReadyAt, Ready, over, along};
 
 // A cell's word so far, and the matches counted so far.
 pub struct Fired {
@@ -109,20 +109,20 @@ fn shares(v: u64, w: u64) -> u64
 }
 
 // The pair rules with the left symbol a, one by one, over the right word.
-fn follow(image: &[u8], table: &[u64; 768], a: usize, right: u64, into: Fired) -> Fired
+fn apply_rules(image: &[u8], grouped: &[u64; 768], a: usize, right: u64, into: Fired) -> Fired
     requires { ⌜ Accepted (now image) ⌝ }
-    requires { ⌜ Grouped (decode (now image)) (now table) ⌝ }
+    requires { ⌜ Grouped (decode (now image)) (now grouped) ⌝ }
     requires { ⌜ (a < 64) × (into .count + 256 < 2 ^ 62) ⌝ }
-    ensures { λ f. ⌜ Followed (decode (now (image .entry))) (over right) a into f ⌝ }
+    ensures { λ f. ⌜ Applied (decode (now (image .entry))) (over right) a into f ⌝ }
 {
     let mut f = into;
     let head = 4 * a;
-    let mut x = table[head] as usize;
-    let end = table[head + 1] as usize;
+    let mut x = grouped[head] as usize;
+    let end = grouped[head + 1] as usize;
     while x < end {
         let at = 256 + 2 * x;
-        let r = table[at];
-        let symbol = table[at + 1];
+        let r = grouped[at];
+        let symbol = grouped[at + 1];
         let hit = shares(right, r);
         f = note(hit, symbol, f);
         x += 1;
@@ -131,39 +131,45 @@ fn follow(image: &[u8], table: &[u64; 768], a: usize, right: u64, into: Fired) -
 }
 
 // The pair rules with the left symbol a, which stands in the left word, over the right word: where all their right symbols stand there,
-// or none, they need not be followed one by one.
-fn fire_group(image: &[u8], table: &[u64; 768], a: usize, right: u64, into: Fired) -> Fired
+// or none, they need not be applied one by one.
+fn fire_group(image: &[u8], grouped: &[u64; 768], a: usize, right: u64, into: Fired) -> Fired
     requires { ⌜ Accepted (now image) ⌝ }
-    requires { ⌜ Grouped (decode (now image)) (now table) ⌝ }
+    requires { ⌜ Grouped (decode (now image)) (now grouped) ⌝ }
     requires { ⌜ (a < 64) × (into .count + 256 < 2 ^ 62) ⌝ }
-    ensures { λ f. ⌜ Followed (decode (now (image .entry))) (over right) a into f ⌝ }
+    ensures { λ f. ⌜ Applied (decode (now (image .entry))) (over right) a into f ⌝ }
 {
     let head = 4 * a;
-    let needs = table[head + 2];
+    let needs = grouped[head + 2];
     let met = right & needs;
     if met == 0 {
         return into;
     }
     if met == needs {
-        let word = into.word | table[head + 3];
-        let count = into.count + (table[head + 1] - table[head]);
+        let word = into.word | grouped[head + 3];
+        let count = into.count + (grouped[head + 1] - grouped[head]);
         return Fired { word, count };
     }
-    follow(image, table, a, right, into)
+    apply_rules(image, grouped, a, right, into)
 }
 
 // Makes ready what the rules of each wanted left symbol make beside a right word, of symbol a in words 2 a and 2 a + 1: the symbols that they
 // conclude, and how many match. All left parts that meet this right part are fired by it.
-pub fn make_ready(image: &[u8], table: &[u64; 768], wanted: u64, right: u64, made: &mut [u64; 128])
+pub fn make_ready(
+    image: &[u8],
+    grouped: &[u64; 768],
+    wanted: u64,
+    right: u64,
+    made: &mut [u64; 128],
+)
     requires { ⌜ Accepted (now image) ⌝ }
-    requires { ⌜ Grouped (decode (now image)) (now table) ⌝ }
+    requires { ⌜ Grouped (decode (now image)) (now grouped) ⌝ }
     requires { ⌜ length (now made) ≡ readyWords ⌝ }
     ensures { λ _. ⌜ Ready (decode (now (image .entry))) right wanted (now (made .exit)) ⌝ }
 {
     let mut rest = wanted;
     while rest != 0 {
         let a = bits::first_bit(rest);
-        let f = fire_group(image, table, a, right, Fired { word: 0, count: 0 });
+        let f = fire_group(image, grouped, a, right, Fired { word: 0, count: 0 });
         made[2 * a] = f.word;
         made[2 * a + 1] = f.count;
         rest = bits::without(rest, a);
@@ -175,7 +181,7 @@ fn take_ready(image: &[u8], made: &[u64; 128], right: u64, a: usize, into: Fired
     requires { ⌜ Accepted (now image) ⌝ }
     requires { ⌜ ReadyAt (decode (now image)) right a (now made) ⌝ }
     requires { ⌜ (a < 64) × (into .count + 256 < 2 ^ 62) ⌝ }
-    ensures { λ f. ⌜ Followed (decode (now (image .entry))) (over right) a into f ⌝ }
+    ensures { λ f. ⌜ Applied (decode (now (image .entry))) (over right) a into f ⌝ }
 {
     let word = into.word | made[2 * a];
     let count = into.count + made[2 * a + 1];
@@ -205,9 +211,9 @@ pub fn fire_pairs(image: &[u8], made: &[u64; 128], left: u64, right: u64, into: 
 // ---- pair rules over marks
 
 // The pair rules with the left symbol a, one by one, over the marks of block r and of the column.
-fn follow_marks(
+fn apply_marked_rules(
     image: &[u8],
-    table: &[u64; 768],
+    grouped: &[u64; 768],
     marks: &[u64],
     r: usize,
     column: &[u64],
@@ -215,19 +221,19 @@ fn follow_marks(
     into: Fired,
 ) -> Fired
     requires { ⌜ Accepted (now image) ⌝ }
-    requires { ⌜ Grouped (decode (now image)) (now table) ⌝ }
+    requires { ⌜ Grouped (decode (now image)) (now grouped) ⌝ }
     requires { ⌜ (r < 96) × (131 * r + 131 ≤ length (now marks)) × (131 ≤ length (now column)) × Told (now column) ⌝ }
     requires { ⌜ (a < 64) × (into .count + 32768 < 2 ^ 62) ⌝ }
-    ensures { λ f. ⌜ Followed (decode (now (image .entry))) (along (now (marks .entry)) r a (now (column .entry))) a into f ⌝ }
+    ensures { λ f. ⌜ Applied (decode (now (image .entry))) (along (now (marks .entry)) r a (now (column .entry))) a into f ⌝ }
 {
     let mut f = into;
     let head = 4 * a;
-    let mut x = table[head] as usize;
-    let end = table[head + 1] as usize;
+    let mut x = grouped[head] as usize;
+    let end = grouped[head + 1] as usize;
     while x < end {
         let at = 256 + 2 * x;
-        let c = bits::first_bit(table[at]);
-        let symbol = table[at + 1];
+        let c = bits::first_bit(grouped[at]);
+        let symbol = grouped[at + 1];
         let matches = marks::meeting(marks, r, a, column, c);
         f = note(matches, symbol, f);
         x += 1;
@@ -235,10 +241,10 @@ fn follow_marks(
     f
 }
 
-// The pair rules with the left symbol a: where none of their right symbols is seen in the column, they need not be followed.
+// The pair rules with the left symbol a: where none of their right symbols is seen in the column, they need not be applied.
 fn fire_marked_group(
     image: &[u8],
-    table: &[u64; 768],
+    grouped: &[u64; 768],
     marks: &[u64],
     r: usize,
     column: &[u64],
@@ -247,28 +253,28 @@ fn fire_marked_group(
     into: Fired,
 ) -> Fired
     requires { ⌜ Accepted (now image) ⌝ }
-    requires { ⌜ Grouped (decode (now image)) (now table) ⌝ }
+    requires { ⌜ Grouped (decode (now image)) (now grouped) ⌝ }
     requires { ⌜ (r < 96) × (131 * r + 131 ≤ length (now marks)) × (131 ≤ length (now column)) × Told (now column) × SeenIn (now column) 0 right ⌝ }
     requires { ⌜ (a < 64) × (into .count + 32768 < 2 ^ 62) ⌝ }
-    ensures { λ f. ⌜ Followed (decode (now (image .entry))) (along (now (marks .entry)) r a (now (column .entry))) a into f ⌝ }
+    ensures { λ f. ⌜ Applied (decode (now (image .entry))) (along (now (marks .entry)) r a (now (column .entry))) a into f ⌝ }
 {
-    let needs = table[4 * a + 2];
+    let needs = grouped[4 * a + 2];
     if right & needs == 0 {
         return into;
     }
-    follow_marks(image, table, marks, r, column, a, into)
+    apply_marked_rules(image, grouped, marks, r, column, a, into)
 }
 
 // All the pair rules over all splits at once: for each symbol that is seen in block r, the rules whose left symbol it is.
 pub fn fire_marks(
     image: &[u8],
-    table: &[u64; 768],
+    grouped: &[u64; 768],
     marks: &[u64],
     r: usize,
     column: &[u64],
 ) -> Fired
     requires { ⌜ Accepted (now image) ⌝ }
-    requires { ⌜ Grouped (decode (now image)) (now table) ⌝ }
+    requires { ⌜ Grouped (decode (now image)) (now grouped) ⌝ }
     requires { ⌜ (r < 96) × (131 * r + 131 ≤ length (now marks)) × (131 ≤ length (now column)) ⌝ }
     requires { ⌜ Told (now marks) × Told (now column) ⌝ }
     ensures { λ f. ⌜ Met (decode (now (image .entry))) (now (marks .entry)) r (now (column .entry)) f × (f .count ≤ 32768) ⌝ }
@@ -281,7 +287,7 @@ pub fn fire_marks(
     let mut rest = marks::seen(marks, r);
     while rest != 0 {
         let a = bits::first_bit(rest);
-        f = fire_marked_group(image, table, marks, r, column, right, a, f);
+        f = fire_marked_group(image, grouped, marks, r, column, right, a, f);
         rest = bits::without(rest, a);
     }
     f

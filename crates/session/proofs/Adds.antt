@@ -14,8 +14,8 @@ use Rattle.bits.specs.Truth.{Decides}
 use Rattle.bits.proofs.Truths.{decides-only}
 use Rattle.bits.specs.Bit.{bit}
 use Rattle.derivation.specs.Grammar.{Grammar}
-use Rattle.derivation.specs.Chart.{column}
-use Rattle.derivation.proofs.Columns.{column-mono}
+use Rattle.derivation.specs.Chart.{cellsBefore}
+use Rattle.derivation.proofs.Columns.{before-mono}
 use Rattle.layout.specs.Layout.{decode}
 use Rattle.image.specs.Refusal.{First}
 use Rattle.image.specs.Image.{imageRows, Names, Accepted}
@@ -29,9 +29,9 @@ use Rattle.session.specs.declared.Added.{Added}
 use Rattle.session.specs.Session.{mostAdded, sessionWords, countRows, addRows, AddAnswered, AddIs}
 
 -- a column of a session lies within its words
-pub column-fits : (k : ℕ) → k ≤ mostAdded → column k + k ≤ sessionWords
-unfolding column
-column-fits k h = column-mono k (mostAdded + 1) (omega arith)
+pub column-fits : (k : ℕ) → k ≤ mostAdded → cellsBefore k + k ≤ sessionWords
+unfolding cellsBefore
+column-fits k h = before-mono k (mostAdded + 1) (omega arith)
 
 -- ---- what a refusal answers, and what success does
 module _ (b : List ℕ) (s : Session) (e : ℕ) (a : Added) where

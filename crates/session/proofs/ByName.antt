@@ -8,7 +8,7 @@ use Rattle.bits.specs.Bit.{bit}
 use Rattle.bits.proofs.Truths.{decides-only}
 use Rattle.derivation.specs.Grammar.{Grammar}
 use Rattle.derivation.specs.Sound.{Sound}
-use Rattle.derivation.proofs.Columns.{column-mono}
+use Rattle.derivation.proofs.Columns.{before-mono}
 use Rattle.layout.specs.Layout.{decode}
 use Rattle.columns.specs.Fill.{rd, ColumnFilled}
 use Rattle.columns.proofs.OneColumn.{symbols-decide, symbols-fire, no-other-symbol}
@@ -25,7 +25,7 @@ module _ (g : Grammar) (ok : Sound g) (s t : Session) (e : ℕ) (a d : Added) (a
 
   held : (i k A : ℕ) → i < k → k ≤ s .count → A < g .symbols → bit (rd (a .session .chart) i k) A ≡ bit (rd (d .session .chart) i k) A
   held i k A l h small =
-      let m = column-mono k (s .count + 1) (omega arith) in
+      let m = before-mono k (s .count + 1) (omega arith) in
       ap (λ (x : ℕ). bit x A) (p .column .frame .before _ (omega (arith, m))) ∙ alike .held i k A l h small ∙ sym (ap (λ (x : ℕ). bit x A) (theirs .frame .before _ (omega (arith, m))))
 
   words : (i : ℕ) → i ≤ s .count → rd (a .session .chart) i (s .count + 1) ≡ rd (d .session .chart) i (s .count + 1)

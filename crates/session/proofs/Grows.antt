@@ -14,9 +14,9 @@ use Rattle.bits.proofs.Words.{zeros}
 use Rattle.derivation.specs.Reading.{Admitted}
 use Rattle.derivation.specs.Numbering.{Telling}
 use Rattle.derivation.specs.Derivations.{known}
-use Rattle.derivation.specs.Chart.{column, cellAt, cells}
+use Rattle.derivation.specs.Chart.{cellsBefore, cellAt, cells}
 use Rattle.derivation.proofs.Numbering.{known-telling}
-use Rattle.derivation.proofs.Columns.{cells-column, column-more}
+use Rattle.derivation.proofs.Columns.{cells-column, before-more}
 use Rattle.layout.specs.Layout.{decode}
 use Rattle.image.specs.Image.{imageRows, eventRows, Accepted}
 use Rattle.image.proofs.Refusals.{none, pass, first-only, past-zero}
@@ -127,7 +127,7 @@ module _ (b w : List ℕ) (s : Session) (m e : ℕ) (a : Added) (grown : Grown b
   -- into zero words
   module _ (r : Judged) (c : List ℕ) (j : JudgeIs b (w then e) (noEvents .chart) r c) where
     fits : cells (length (w then e)) ≤ length (noEvents .chart)
-    fits = omega (arith, empty-long, cells-column (length (w then e)), column-more (length (w then e)), column-fits (length (w then e)) few)
+    fits = omega (arith, empty-long, cells-column (length (w then e)), before-more (length (w then e)), column-fits (length (w then e)) few)
 
     same : c ≡ a .session .chart
     same = chart-only b (w then e) (noEvents .chart) r fresh c (a .session .chart) (theirs (noEvents .chart) r c fits j) own
@@ -150,7 +150,7 @@ module _ (b w : List ℕ) (s : Session) (m e : ℕ) (a : Added) (grown : Grown b
     was-zero : (y : ℕ) → cellAt 0 (s .count + 1) ≤ y → getD (s .chart) y 0 ≡ 0
     was-zero y l =
         let p = whole b grown in
-        p .columns .past y (omega (arith, l, cells-column (length w), ap (λ (n : ℕ). column (n + 1)) (p .count))) ∙ empty-zero y
+        p .columns .past y (omega (arith, l, cells-column (length w), ap (λ (n : ℕ). cellsBefore (n + 1)) (p .count))) ∙ empty-zero y
 
     word : (y : ℕ) → getD (t .session .chart) y 0 ≡ getD (s .chart) y 0
     word = around (t .session .chart) (s .chart) (cellAt 0 (s .count + 1)) (s .count + 1) (λ y l. frame .before y l ∙ is .answered success .column .frame .before y l)

@@ -16,13 +16,13 @@ use Rattle.bits.specs.Frame.{Framed, Zeros}
 use Rattle.bits.proofs.Frames.{framed-none}
 use Rattle.bits.proofs.Sums.{sum-cong, sum-zero, sum-split, sum-upto, between-cong}
 use Rattle.derivation.specs.Grammar.{Grammar, pairCount, pairRule}
-use Rattle.derivation.specs.Derivations.{count}
+use Rattle.derivation.specs.Derivations.{count, known}
 use Rattle.marks.specs.Mark.{stands, meetings, Apart, CommonIs}
 use Rattle.marks.specs.Shown.{Lefts, Rights, Shown, CellMarked}
 use Rattle.marks.proofs.Marks.{split-lt}
 use Rattle.marks.proofs.Shows.{met-between, shown-step}
 use Rattle.table.specs.Table.{held, slotOf}
-use Rattle.table.specs.Fill.{splitAdds, pairAdds, Summed, Done, derived, Nonzero, Parts}
+use Rattle.table.specs.Fill.{splitAdds, pairAdds, Summed, Done, Nonzero, Parts}
 use Rattle.table.proofs.Slots.{slot-before, slot-after, slot-word}
 
 some-held : (x : ℕ) → min 1 (held x) ≡ min 1 x
@@ -30,7 +30,8 @@ some-held x = omega arith
 
 -- ---- the parts of a stretch whose shorter stretches are counted
 pub parts-shown : (g : Grammar) (w t lefts rights : List ℕ) (i k : ℕ) → i < k → Done g w t (i + 1) k
-    → Lefts (g .symbols) (derived g w) lefts (i + 1) k → Rights (g .symbols) (derived g w) rights (i + 1) k → Parts t (g .symbols) lefts rights i k
+    → Lefts (g .symbols) (known g w) lefts (i + 1) k → Rights (g .symbols) (known g w) rights (i + 1) k → Parts t (g .symbols) lefts rights i k
+unfolding known
 parts-shown g w t lefts rights i k inside d rows cols = record {
   few = rows .few;
   symbols = rows .symbols;
@@ -41,7 +42,7 @@ parts-shown g w t lefts rights i k inside d rows cols = record {
     | yes l ↦ absurd (omega (arith, cols .outside j C h (inl l) s))
     | no l ↦ elim (decLe k j) [ yes o ↦ absurd (omega (arith, cols .outside j C h (inr o) s)) | no o ↦ (omega arith, omega arith) ]
   ];
-  met = λ B C b c G. met-between (g .symbols) (derived g w) lefts rights i k inside rows cols B C b c G
+  met = λ B C b c G. met-between (g .symbols) (known g w) lefts rights i k inside rows cols B C b c G
       ∙ between-cong i k _ _ (λ j l h. ap₂ (λ (x y : ℕ). x * y * G j) (word B i j b l (omega arith) (λ e. omega arith)) (word C j k c h (omega arith) (λ e. omega arith)));
 }
   where
@@ -121,7 +122,8 @@ none-summed g t lefts rights i k base fits p apart z = record {
 -- ---- a cell that is counted and marked
 pub cell-shown : (g : Grammar) (w t lefts v rights x : List ℕ) (i k word : ℕ) → i < k → ((A : ℕ) → A < g .symbols → getD t (slotOf (g .symbols) A i k) 0 ≡ held (count g w A i k))
     → Nonzero t (slotOf (g .symbols) 0 i k) (g .symbols) word → CellMarked lefts v rights x i k word
-    → Shown (g .symbols) (derived g w) lefts rights (i + 1) k → Shown (g .symbols) (derived g w) v x i k
+    → Shown (g .symbols) (known g w) lefts rights (i + 1) k → Shown (g .symbols) (known g w) v x i k
+unfolding known
 cell-shown g w t lefts v rights x i k word inside right n m =
-    shown-step (g .symbols) (derived g w) (derived g w) i k word inside
+    shown-step (g .symbols) (known g w) (known g w) i k word inside
     (λ A s. n .at A s ∙ ap (λ (y : ℕ). min 1 (getD t y 0)) (slot-word (g .symbols) A i k) ∙ ap (min 1) (right A s) ∙ some-held _) (λ y j A l f s. refl) lefts v rights x m

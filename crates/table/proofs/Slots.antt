@@ -6,7 +6,7 @@ use native.Mathlib.Nat.{mul-le-mul, mul-le-mul-right, mul-le-mul-left, eq-or-lt-
 use mathlib.Core.Path.{_≡_}
 use mathlib.Core.Logic.{⊎-elim}
 use Rattle.derivation.specs.Chart.{cellAt, cells}
-use Rattle.derivation.proofs.Columns.{column-more, column-mono, cells-column, cells-small, cell-within, cell-of}
+use Rattle.derivation.proofs.Columns.{before-more, before-mono, cells-column, cells-small, cell-within, cell-of}
 use Rattle.table.specs.Table.{slotOf, tableWords}
 
 module _ (N : ℕ) where
@@ -18,14 +18,14 @@ module _ (N : ℕ) where
   slot-word A i k = omega arith
 
   pub slot-before : (A a b i k : ℕ) → A < N → a < b → b < k → slotOf N A a b < slotOf N 0 i k
-  slot-before A a b i k s l h = let t = next (cellAt a b) (cellAt i k) (omega (arith, column-mono b k h)) in omega arith
+  slot-before A a b i k s l h = let t = next (cellAt a b) (cellAt i k) (omega (arith, before-mono b k h)) in omega arith
 
   pub slot-after : (A i j k : ℕ) → i < j → slotOf N 0 i k + N ≤ slotOf N A j k
   slot-after A i j k l = let t = next (cellAt i k) (cellAt j k) (omega arith) in omega arith
 
   cells-on : (k n : ℕ) → k ≤ n → cells k ≤ cells n
   cells-on k n h = rw (cells-column k, cells-column n) (⊎-elim
-      (λ (e : k ≡ n). rw e (le-refl _)) (λ (l : k < n). omega (arith, column-mono (k + 1) (n + 1) (omega arith))) (eq-or-lt-of-le h))
+      (λ (e : k ≡ n). rw e (le-refl _)) (λ (l : k < n). omega (arith, before-mono (k + 1) (n + 1) (omega arith))) (eq-or-lt-of-le h))
 
   pub words-on : (k n : ℕ) → k ≤ n → tableWords N k ≤ tableWords N n
   words-on k n h = mul-le-mul-left N (cells-on k n h)
@@ -38,7 +38,7 @@ module _ (N : ℕ) where
 
   -- one split further: the left part's cell is j cells on, and the right part's is the next
   pub slot-left : (B i j : ℕ) → slotOf N B i (j + 1) ≡ slotOf N B i j + j * N
-  slot-left B i j = rw (column-more j) (omega arith)
+  slot-left B i j = rw (before-more j) (omega arith)
 
   pub slot-right : (C j k : ℕ) → slotOf N C (j + 1) k ≡ slotOf N C j k + N
   slot-right C j k = omega arith

@@ -68,10 +68,6 @@ pub record CountsIn (g : Grammar) (w t : List ℕ) : Type 0 where
   pub at : (A i k : ℕ) → A < g .symbols → i < k → k ≤ length w → Right g w t A i k
 
 -- ---- marks
--- 1 where A has a derivation over i to k, else 0
-abbrev pub derived : Grammar → List ℕ → (i k A : ℕ) → ℕ
-derived g w i k A = min 1 (count g w A i k)
-
 -- w has those of the first n symbols whose words, from base on, are not 0
 pub record Nonzero (t : List ℕ) (base n w : ℕ) : Type 0 where
   pub at : (A : ℕ) → A < n → bit w A ≡ min 1 (getD t (base + A) 0)

@@ -7,13 +7,14 @@ ghost use mathlib.Core.Bool.{true};
 ghost use Prim.Native.Nat.{_+_, _*_, _≤_, _<_, min};
 ghost use lib.ListN.{length, getD, set};
 ghost use Rattle.derivation.specs.Grammar.{leafCount, pairCount};
+ghost use Rattle.derivation.specs.Derivations.{known};
 ghost use Rattle.layout.specs.Layout.{decode};
 ghost use Rattle.image.specs.Image.{Accepted};
 ghost use Rattle.bits.specs.Frame.{Framed, Zeros};
 ghost use Rattle.marks.specs.Mark.{Apart, Told};
 ghost use Rattle.marks.specs.Shown.{InUse, Lefts, Shown};
 ghost use Rattle.table.specs.Table.{held, slotOf, tableWords, Filled};
-ghost use Rattle.table.specs.Fill.{pairAdds, leafAdds, Summed, CellDone, Done, Kept, derived, Parts, Nonzero};
+ghost use Rattle.table.specs.Fill.{pairAdds, leafAdds, Summed, CellDone, Done, Kept, Parts, Nonzero};
 
 // Neighbouring rules are alike, so that one in so many is asked whether its symbols are crowded.
 const SAMPLE: usize = 8;
@@ -134,7 +135,7 @@ fn work_cell(
     requires { ⌜ Accepted (now image) ⌝ }
     requires { ⌜ Done (decode (now image)) (now events) (now table) (i + 1) k ⌝ }
     requires { ⌜ (i < k) × (k ≤ length (now events)) × (k < 65536) × (tableWords (decode (now image) .symbols) k ≤ length (now table)) ⌝ }
-    requires { ⌜ Shown (decode (now image) .symbols) (derived (decode (now image)) (now events)) (now lefts) (now rights) (i + 1) k ⌝ }
+    requires { ⌜ Shown (decode (now image) .symbols) (known (decode (now image)) (now events)) (now lefts) (now rights) (i + 1) k ⌝ }
     ensures { λ _. ⌜ CellDone (decode (now (image .entry))) (now (events .entry)) i k (now (table .entry)) (now (table .exit)) ⌝ }
 {
     let symbols = layout::symbol_count(image);
@@ -181,9 +182,9 @@ fn fill_cell(
     requires { ⌜ Accepted (now image) ⌝ }
     requires { ⌜ Done (decode (now image)) (now events) (now table) (i + 1) k ⌝ }
     requires { ⌜ (i < k) × (k ≤ length (now events)) × (k < 65536) × (tableWords (decode (now image) .symbols) k ≤ length (now table)) ⌝ }
-    requires { ⌜ Shown (decode (now image) .symbols) (derived (decode (now image)) (now events)) (now lefts) (now rights) (i + 1) k ⌝ }
+    requires { ⌜ Shown (decode (now image) .symbols) (known (decode (now image)) (now events)) (now lefts) (now rights) (i + 1) k ⌝ }
     ensures { λ _. ⌜ CellDone (decode (now (image .entry))) (now (events .entry)) i k (now (table .entry)) (now (table .exit))
-        × Shown (decode (now (image .entry)) .symbols) (derived (decode (now (image .entry))) (now (events .entry))) (now (lefts .exit)) (now (rights .exit)) i k ⌝ }
+        × Shown (decode (now (image .entry)) .symbols) (known (decode (now (image .entry))) (now (events .entry))) (now (lefts .exit)) (now (rights .exit)) i k ⌝ }
 {
     work_cell(image, events, table, lefts, rights, i, k);
     if lefts.len() < marks::LEFTS {
@@ -207,10 +208,10 @@ fn fill_cells(
     requires { ⌜ Accepted (now image) ⌝ }
     requires { ⌜ Done (decode (now image)) (now events) (now table) k k ⌝ }
     requires { ⌜ (k ≤ length (now events)) × (length (now events) < 65536) × (tableWords (decode (now image) .symbols) (length (now events)) ≤ length (now table)) ⌝ }
-    requires { ⌜ Shown (decode (now image) .symbols) (derived (decode (now image)) (now events)) (now lefts) (now rights) k k ⌝ }
+    requires { ⌜ Shown (decode (now image) .symbols) (known (decode (now image)) (now events)) (now lefts) (now rights) k k ⌝ }
     ensures { λ _. ⌜ Done (decode (now (image .entry))) (now (events .entry)) (now (table .exit)) 0 k
         × Kept (now (table .entry)) (now (table .exit)) (tableWords (decode (now (image .entry)) .symbols) (length (now (events .entry))))
-        × Shown (decode (now (image .entry)) .symbols) (derived (decode (now (image .entry))) (now (events .entry))) (now (lefts .exit)) (now (rights .exit)) 0 k ⌝ }
+        × Shown (decode (now (image .entry)) .symbols) (known (decode (now (image .entry))) (now (events .entry))) (now (lefts .exit)) (now (rights .exit)) 0 k ⌝ }
 {
     let mut i = k;
     while 0 < i {
@@ -224,10 +225,10 @@ fn fill_column(image: &[u8], events: &[u16], table: &mut [u32], lefts: &mut [u64
     requires { ⌜ Accepted (now image) ⌝ }
     requires { ⌜ Done (decode (now image)) (now events) (now table) k k ⌝ }
     requires { ⌜ (k ≤ length (now events)) × (length (now events) < 65536) × (tableWords (decode (now image) .symbols) (length (now events)) ≤ length (now table)) ⌝ }
-    requires { ⌜ (InUse (now lefts) → Lefts (decode (now image) .symbols) (derived (decode (now image)) (now events)) (now lefts) k k) ⌝ }
+    requires { ⌜ (InUse (now lefts) → Lefts (decode (now image) .symbols) (known (decode (now image)) (now events)) (now lefts) k k) ⌝ }
     ensures { λ _. ⌜ Done (decode (now (image .entry))) (now (events .entry)) (now (table .exit)) 0 k
         × Kept (now (table .entry)) (now (table .exit)) (tableWords (decode (now (image .entry)) .symbols) (length (now (events .entry))))
-        × (InUse (now (lefts .exit)) → Lefts (decode (now (image .entry)) .symbols) (derived (decode (now (image .entry))) (now (events .entry))) (now (lefts .exit)) 0 k) ⌝ }
+        × (InUse (now (lefts .exit)) → Lefts (decode (now (image .entry)) .symbols) (known (decode (now (image .entry))) (now (events .entry))) (now (lefts .exit)) 0 k) ⌝ }
 {
     if lefts.len() < marks::LEFTS {
         let mut none = [0u64; 1];
@@ -242,7 +243,7 @@ fn fill_column(image: &[u8], events: &[u16], table: &mut [u32], lefts: &mut [u64
 pub fn fill_columns(image: &[u8], events: &[u16], table: &mut [u32], lefts: &mut [u64])
     requires { ⌜ Accepted (now image) ⌝ }
     requires { ⌜ (length (now events) < 65536) × (tableWords (decode (now image) .symbols) (length (now events)) ≤ length (now table)) ⌝ }
-    requires { ⌜ (InUse (now lefts) → (length (now events) ≤ 96) × Lefts (decode (now image) .symbols) (derived (decode (now image)) (now events)) (now lefts) 1 1) ⌝ }
+    requires { ⌜ (InUse (now lefts) → (length (now events) ≤ 96) × Lefts (decode (now image) .symbols) (known (decode (now image)) (now events)) (now lefts) 1 1) ⌝ }
     ensures { λ _. ⌜ Filled (decode (now (image .entry))) (now (events .entry)) (now (table .entry)) (now (table .exit)) ⌝ }
 {
     let mut k = 0;

@@ -15,12 +15,12 @@ use Rattle.columns.proofs.fill_cells.Statement.{statement}
 use Rattle.columns.proofs.fill_cells.Tie as tie
 
 abbrev Inv-loop : tie.InvT-loop
-Inv-loop image table heard lefts₀ rights₀ event chart₀ q k at count₀ x₀ lefts rights chart count x =
+Inv-loop image grouped heard lefts₀ rights₀ event chart₀ q k at count₀ x₀ lefts rights chart count x =
     (x ≤ q) × (count ≤ 512 + 16777216 * x) × Part (decode image) event chart₀ chart q (q - x) count
     × (length lefts ≡ length lefts₀) × (length rights ≡ length rights₀) × Shown 64 (inChart chart) lefts rights (q - x) (q + 1)
 
 abbrev μ-loop : tie.MeasureT-loop
-μ-loop image table heard lefts₀ rights₀ event chart₀ q k at count₀ x₀ lefts rights chart count x = q - x
+μ-loop image grouped heard lefts₀ rights₀ event chart₀ q k at count₀ x₀ lefts rights chart count x = q - x
 
 add-k : tie.Need-add-k Inv-loop μ-loop
 add-k c = search needs

@@ -15,13 +15,13 @@ use Rattle.columns.proofs.fill_columns.Statement.{statement}
 use Rattle.columns.proofs.fill_columns.Tie as tie
 
 abbrev Inv-loop : tie.InvT-loop
-Inv-loop image table heard lefts₀ events chart₀ count₀ q₀ q-end lefts chart count q =
+Inv-loop image grouped heard lefts₀ events chart₀ count₀ q₀ q-end lefts chart count q =
     (q-end ≡ length events) × (q ≤ q-end) × (length chart ≡ length chart₀) × (count ≤ 2199023255552 * q)
     × Columns (decode image) events chart₀ chart q count
     × (length lefts ≡ length lefts₀) × (InUse lefts → (q < 96 → Lefts 64 (inChart chart) lefts (q + 1) (q + 1)))
 
 abbrev μ-loop : tie.MeasureT-loop
-μ-loop image table heard lefts₀ events chart₀ count₀ q₀ q-end lefts chart count q = q-end - q
+μ-loop image grouped heard lefts₀ events chart₀ count₀ q₀ q-end lefts chart count q = q-end - q
 
 loop-holds : tie.Need-loop-holds Inv-loop μ-loop
 loop-holds c = (refl, omega arith, refl, omega arith, columns-start _ _ _, refl, λ there l. c .before .before .before .before .before .pre .1 .1 .1 .0 there .1)

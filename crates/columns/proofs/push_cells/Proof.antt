@@ -7,17 +7,17 @@ use native.Mathlib.Omega.{arith}
 use borrow.Author.Needs.{needs}
 use lib.ListN.{length, length-set}
 use Rattle.layout.specs.Layout.{decode}
-use Rattle.kernel.specs.Follow.{readyWords}
+use Rattle.kernel.specs.Apply.{readyWords}
 use Rattle.columns.proofs.Pushes.{Late, only-column, late-start, late-step, late-done}
 use Rattle.columns.proofs.push_cells.Statement.{statement}
 use Rattle.columns.proofs.push_cells.Tie as tie
 
 abbrev Inv-loop : tie.InvT-loop
-Inv-loop image table heard event chart₀ q k first last made₀ count₀ x₀ chart made count x =
+Inv-loop image grouped heard event chart₀ q k first last made₀ count₀ x₀ chart made count x =
     (x ≤ q) × (count ≤ 512 + 16777216 * x) × Late (decode image) event chart₀ chart q (q - x) count × (length made ≡ readyWords)
 
 abbrev μ-loop : tie.MeasureT-loop
-μ-loop image table heard event chart₀ q k first last made₀ count₀ x₀ chart made count x = q - x
+μ-loop image grouped heard event chart₀ q k first last made₀ count₀ x₀ chart made count x = q - x
 
 add-k : tie.Need-add-k Inv-loop μ-loop
 add-k c = search needs

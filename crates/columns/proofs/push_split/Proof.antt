@@ -4,7 +4,7 @@ use mathlib.Core.Path.{_≡_, sym, _∙_}
 use Prim.Native.Nat.{_-_, _*_, _≤_}
 use native.Mathlib.Omega.{arith}
 use borrow.Author.Needs.{needs}
-use Rattle.derivation.proofs.Columns.{column-mono}
+use Rattle.derivation.proofs.Columns.{before-mono}
 use Rattle.layout.specs.Layout.{decode}
 use Rattle.columns.specs.Fill.{Pushed}
 use Rattle.columns.proofs.Pushes.{pushed-start, pushed-none, pushed-step, left-ready}
@@ -12,10 +12,10 @@ use Rattle.columns.proofs.push_split.Statement.{statement}
 use Rattle.columns.proofs.push_split.Tie as tie
 
 abbrev Inv-loop : tie.InvT-loop
-Inv-loop image table made chart₀ j k right wanted first count₀ i₀ chart count i = (i ≤ j) × (count ≤ 256 * i) × Pushed (decode image) j k chart₀ chart i count
+Inv-loop image grouped made chart₀ j k right wanted first count₀ i₀ chart count i = (i ≤ j) × (count ≤ 256 * i) × Pushed (decode image) j k chart₀ chart i count
 
 abbrev μ-loop : tie.MeasureT-loop
-μ-loop image table made chart₀ j k right wanted first count₀ i₀ chart count i = j - i
+μ-loop image grouped made chart₀ j k right wanted first count₀ i₀ chart count i = j - i
 
 read-cell-requires : tie.Need-read-cell-requires Inv-loop μ-loop
 read-cell-requires c κs = let p = c .before .before .before .pre .1 .1 .1 in (p .0, p .1, omega (arith, p .0, p .2))
@@ -27,7 +27,7 @@ returns : tie.Need-returns Inv-loop μ-loop
 returns c = (pushed-none _ _ _ _ (sym (c .before .read-cell .ensures) ∙ c .if1 .taken), omega arith, c .before .before .before .before .before .pre .1 .1 .0)
 
 standing-requires : tie.Need-standing-requires Inv-loop μ-loop
-standing-requires c κs = let p = c .before .before .before .before .before .before .pre .1 .1 .1 in (omega (arith, p .0, p .1), omega (arith, p .2, column-mono _ _ (p .0)))
+standing-requires c κs = let p = c .before .before .before .before .before .before .pre .1 .1 .1 in (omega (arith, p .0, p .1), omega (arith, p .2, before-mono _ _ (p .0)))
 
 make-ready-requires : tie.Need-make-ready-requires Inv-loop μ-loop
 make-ready-requires c κs = let s = c .before .before .before .before .before .before .before .before in (s .pre .0, (s .pre .1 .0, s .pre .1 .1 .0))
@@ -43,7 +43,7 @@ read-cell-requires-2 c κs =
     let p = c .before .before .before .before .before .before .before .before .before .before .before .before .before .pre .1 .1 .1 in
     let v = c .before .before .loop .inv in
     let h = c .before .loop-test .taken in
-    (h, omega (arith, p .0, p .1), rw (v .2 .frame .long) (omega (arith, h, p .2, column-mono _ _ (p .0))))
+    (h, omega (arith, p .0, p .1), rw (v .2 .frame .long) (omega (arith, h, p .2, before-mono _ _ (p .0))))
 
 add-at : tie.Need-add-at Inv-loop μ-loop
 add-at c = let s = c .before .before .before .before .before .before .before .before .before .before .before .before .before .before in let p = s .pre .1 .1 .1 in omega (arith, c .before .before .loop-test .taken, p .0, p .2, c .before .before .before .before .cell-at .ensures, s .good .1 .1 .1 .0 .0)

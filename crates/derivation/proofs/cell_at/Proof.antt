@@ -4,7 +4,7 @@ use borrow.Author.Needs.{needs}
 use native.Mathlib.Omega.{arith}
 use Prim.Native.Nat.{_-_}
 use mathlib.Core.Path.{refl}
-use Rattle.derivation.specs.Chart.{column}
+use Rattle.derivation.specs.Chart.{cellsBefore}
 use Rattle.derivation.proofs.Columns.{product-small}
 use Rattle.derivation.proofs.cell_at.Statement.{statement}
 use Rattle.derivation.proofs.cell_at.Tie as tie
@@ -19,7 +19,7 @@ add-result : tie.Need-add-result
 add-result c = omega (arith, product-small (c .args .k) (c .args .k - 1) (omega arith) (omega arith))
 
 returns : tie.Need-returns
-unfolding column
+unfolding cellsBefore
 returns c = refl
 
 pub cell-at-spec : {M : Type 1} → statement M

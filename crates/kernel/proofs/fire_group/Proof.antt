@@ -1,16 +1,16 @@
--- The group's unions tell that none of its rules matches or that all do; otherwise they are followed one by one.
+-- The group's unions tell that none of its rules matches or that all do; otherwise they are applied one by one.
 -- Assumes nothing.
 use mathlib.Core.Path.{refl}
 use Rattle.layout.specs.Layout.{decode}
 use Rattle.groups.proofs.Places.{Ends, ends-of}
-use Rattle.kernel.proofs.Unions.{followed-none, followed-all}
+use Rattle.kernel.proofs.Unions.{applied-none, applied-all}
 use native.Mathlib.Omega.{arith}
 use borrow.Author.Needs.{needs}
 use Rattle.kernel.proofs.fire_group.Statement.{statement}
 use Rattle.kernel.proofs.fire_group.Tie as tie
 
 -- where the group lies
-ends : (s : tie.Start) → Ends (decode (s .args .image .now)) (s .args .table .now) (s .args .a)
+ends : (s : tie.Start) → Ends (decode (s .args .image .now)) (s .args .grouped .now) (s .args .a)
 ends s = ends-of _ _ _ (s .pre .1 .0) (s .pre .0 .sound .range .pairs) (s .pre .1 .1 .0)
 
 mul-head : tie.Need-mul-head
@@ -28,7 +28,7 @@ element-copy-out-needs c = search needs
 returns : tie.Need-returns
 returns c =
     let s = c .before .before .before in
-    followed-none (decode (s .args .image .now)) _ (s .pre .1 .0) (s .args .right) (s .args .a) (s .pre .1 .1 .0) (c .if1 .taken) _
+    applied-none (decode (s .args .image .now)) _ (s .pre .1 .0) (s .args .right) (s .args .a) (s .pre .1 .1 .0) (c .if1 .taken) _
 
 add-word : tie.Need-add-word
 add-word c = search needs
@@ -63,11 +63,11 @@ add-count-2 c = let e = ends (c .before .before .before .before .before .before 
 returns-2 : tie.Need-returns-2
 returns-2 c =
     let s = c .before .before .before .before .before .before .before .before .before in
-    followed-all (decode (s .args .image .now)) _ (s .pre .1 .0) (s .args .right) (s .args .a) (s .pre .1 .1 .0)
+    applied-all (decode (s .args .image .now)) _ (s .pre .1 .0) (s .args .right) (s .args .a) (s .pre .1 .1 .0)
     (c .before .before .before .before .before .if2 .taken) _ _ refl refl
 
-follow-requires : tie.Need-follow-requires
-follow-requires c κs = search needs
+apply-rules-requires : tie.Need-apply-rules-requires
+apply-rules-requires c κs = search needs
 
 returns-3 : tie.Need-returns-3
 returns-3 c = search needs
@@ -92,5 +92,5 @@ fire-group-spec =
     sub-count
     add-count-2
     returns-2
-    follow-requires
+    apply-rules-requires
     returns-3)

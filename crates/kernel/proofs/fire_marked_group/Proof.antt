@@ -1,4 +1,4 @@
--- The group's first union tells that none of its rules matches; otherwise they are followed one by one.
+-- The group's first union tells that none of its rules matches; otherwise they are applied one by one.
 -- Assumes nothing.
 use Rattle.groups.proofs.Read.{parts-small}
 use Rattle.kernel.proofs.Along.{group-unmet}
@@ -23,8 +23,8 @@ returns c =
     let p = c .before .before .before .before .before .pre in
     group-unmet _ _ (p .1 .0) (parts-small _ (p .0 .sound)) _ _ _ _ _ (p .1 .1 .0 .4) (p .1 .1 .1 .0) (c .if1 .taken) _
 
-follow-marks-requires : tie.Need-follow-marks-requires
-follow-marks-requires c κs =
+apply-marked-rules-requires : tie.Need-apply-marked-rules-requires
+apply-marked-rules-requires c κs =
     let p = c .before .before .before .before .before .pre in
     (p .0, (p .1 .0, ((p .1 .1 .0 .0, p .1 .1 .0 .1, p .1 .1 .0 .2, p .1 .1 .0 .3), p .1 .1 .1)))
 
@@ -40,5 +40,5 @@ fire-marked-group-spec =
     mul-needs-2
     element-copy-out-needs
     returns
-    follow-marks-requires
+    apply-marked-rules-requires
     returns-2)

@@ -5,7 +5,7 @@ use Prim.Native.Nat.{ℕ, _+_, _≤_}
 use Rattle.layout.specs.Layout.{decode}
 use Rattle.groups.proofs.Read.{parts-small}
 use Rattle.kernel.specs.declared.Fired.{Fired}
-use Rattle.kernel.specs.Follow.{along}
+use Rattle.kernel.specs.Apply.{along}
 use Rattle.kernel.proofs.Visits.{Visit, visit-start, visit-step, visit-few}
 use Rattle.kernel.proofs.Along.{along-le, none-met, met-all}
 use borrow.Author.Needs.{needs}
@@ -14,10 +14,10 @@ use Rattle.kernel.proofs.fire_marks.Statement.{statement}
 use Rattle.kernel.proofs.fire_marks.Tie as tie
 
 abbrev Inv-loop : tie.InvT-loop
-Inv-loop image table marks r column f₀ right rest₀ f rest = Visit (decode image) rest₀ (λ (a : ℕ). along marks r a column) f₀ f rest
+Inv-loop image grouped marks r column f₀ right rest₀ f rest = Visit (decode image) rest₀ (λ (a : ℕ). along marks r a column) f₀ f rest
 
 abbrev μ-loop : tie.MeasureT-loop
-μ-loop image table marks r column f₀ right rest₀ f rest = rest
+μ-loop image grouped marks r column f₀ right rest₀ f rest = rest
 
 -- the matches counted so far are few
 few : (s : tie.Start Inv-loop μ-loop) (w : ℕ) (was f : Fired) (rest : ℕ)

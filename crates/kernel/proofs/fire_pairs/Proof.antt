@@ -7,17 +7,17 @@ use Rattle.bits.proofs.Bits.{bit-lt}
 use Rattle.derivation.specs.Grammar.{pairCount, pairRule}
 use Rattle.layout.specs.Layout.{decode}
 use Rattle.groups.proofs.Read.{parts-small}
-use Rattle.kernel.specs.Follow.{over}
+use Rattle.kernel.specs.Apply.{over}
 use Rattle.kernel.proofs.Visits.{Visit, visit-start, visit-step, visit-few}
 use Rattle.kernel.proofs.Pairs.{over-le, none-left, concluded-all}
 use Rattle.kernel.proofs.fire_pairs.Statement.{statement}
 use Rattle.kernel.proofs.fire_pairs.Tie as tie
 
 abbrev Inv-loop : tie.InvT-loop
-Inv-loop image table left right f₀ rest₀ f rest = Visit (decode image) left (λ (s : ℕ). over right) f₀ f rest
+Inv-loop image grouped left right f₀ rest₀ f rest = Visit (decode image) left (λ (s : ℕ). over right) f₀ f rest
 
 abbrev μ-loop : tie.MeasureT-loop
-μ-loop image table left right f₀ rest₀ f rest = rest
+μ-loop image grouped left right f₀ rest₀ f rest = rest
 
 returns : tie.Need-returns Inv-loop μ-loop
 returns c = (none-left _ _ _ (c .if1 .taken) _, omega arith)

@@ -8,10 +8,10 @@ use Rattle.kernel.proofs.make_ready.Statement.{statement}
 use Rattle.kernel.proofs.make_ready.Tie as tie
 
 abbrev Inv-loop : tie.InvT-loop
-Inv-loop image table wanted right made₀ rest₀ made rest = Made (decode image) right wanted rest made
+Inv-loop image grouped wanted right made₀ rest₀ made rest = Made (decode image) right wanted rest made
 
 abbrev μ-loop : tie.MeasureT-loop
-μ-loop image table wanted right made₀ rest₀ made rest = rest
+μ-loop image grouped wanted right made₀ rest₀ made rest = rest
 
 loop-holds : tie.Need-loop-holds Inv-loop μ-loop
 loop-holds c = made-none _ _ _ _ (c .before .pre .1 .1)

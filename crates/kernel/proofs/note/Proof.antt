@@ -1,7 +1,7 @@
 -- With no match nothing changes; with some the bits of the symbol go in, and each counts.
 -- Assumes nothing.
 use mathlib.Core.Path.{refl}
-use Rattle.kernel.proofs.Follows.{none-noted, some-noted}
+use Rattle.kernel.proofs.Applies.{none-noted, some-noted}
 use native.Mathlib.Omega.{arith}
 use borrow.Author.Needs.{needs}
 use Rattle.kernel.proofs.note.Statement.{statement}

@@ -4,10 +4,11 @@ use mathlib.Core.Path.{_≡_, refl, _∙_}
 use Prim.Native.Nat.{_+_, _-_, _≤_, _<_}
 use native.Mathlib.Nat.{le-trans}
 use lib.ListN.{length}
+use Rattle.derivation.specs.Derivations.{known}
 use Rattle.layout.specs.Layout.{decode}
 use Rattle.marks.specs.Shown.{Shown}
 use Rattle.table.specs.Table.{tableWords}
-use Rattle.table.specs.Fill.{Done, Kept, derived}
+use Rattle.table.specs.Fill.{Done, Kept}
 use Rattle.table.proofs.Slots.{words-on, cell-fits}
 use Rattle.table.proofs.Cells.{kept-none, kept-on}
 use Rattle.table.proofs.Tables.{done-on}
@@ -19,7 +20,7 @@ use Rattle.table.proofs.fill.fill_cells.Tie as tie
 abbrev Inv-loop : tie.InvT-loop
 Inv-loop image events table₀ lefts₀ rights₀ k i₀ table lefts rights i =
     (i ≤ k) × Done (decode image) events table i k × Kept table₀ table (tableWords (decode image .symbols) (length events))
-    × (length lefts ≡ length lefts₀) × (length rights ≡ length rights₀) × Shown (decode image .symbols) (derived (decode image) events) lefts rights i k
+    × (length lefts ≡ length lefts₀) × (length rights ≡ length rights₀) × Shown (decode image .symbols) (known (decode image) events) lefts rights i k
 
 abbrev μ-loop : tie.MeasureT-loop
 μ-loop image events table₀ lefts₀ rights₀ k i₀ table lefts rights i = i

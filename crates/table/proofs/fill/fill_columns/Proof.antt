@@ -3,11 +3,12 @@
 use mathlib.Core.Path.{_≡_, refl, _∙_}
 use Prim.Native.Nat.{_+_, _-_, _≤_, _<_}
 use lib.ListN.{length}
+use Rattle.derivation.specs.Derivations.{known}
 use Rattle.layout.specs.Layout.{decode}
 use Rattle.marks.specs.Shown.{InUse, Lefts}
 use Rattle.marks.proofs.Shows.{lefts-next}
 use Rattle.table.specs.Table.{tableWords}
-use Rattle.table.specs.Fill.{Done, Kept, derived}
+use Rattle.table.specs.Fill.{Done, Kept}
 use Rattle.table.proofs.Cells.{kept-none, kept-join}
 use Rattle.table.proofs.Tables.{done-none, column-start, filled}
 use borrow.Author.Needs.{needs}
@@ -18,7 +19,7 @@ use Rattle.table.proofs.fill.fill_columns.Tie as tie
 abbrev Inv-loop : tie.InvT-loop
 Inv-loop image events table₀ lefts₀ k₀ table lefts k =
     (k ≤ length events) × Done (decode image) events table 0 k × Kept table₀ table (tableWords (decode image .symbols) (length events))
-    × (length lefts ≡ length lefts₀) × (InUse lefts → (k < 96 → Lefts (decode image .symbols) (derived (decode image) events) lefts (k + 1) (k + 1)))
+    × (length lefts ≡ length lefts₀) × (InUse lefts → (k < 96 → Lefts (decode image .symbols) (known (decode image) events) lefts (k + 1) (k + 1)))
 
 abbrev μ-loop : tie.MeasureT-loop
 μ-loop image events table₀ lefts₀ k₀ table lefts k = length events - k

@@ -7,22 +7,22 @@ use Rattle.layout.specs.Layout.{decode}
 use Rattle.groups.specs.Group.{lefts, groupFrom}
 use Rattle.groups.proofs.Read.{parts-small}
 use Rattle.groups.proofs.Places.{Ends, ends-of}
-use Rattle.kernel.specs.Follow.{along}
+use Rattle.kernel.specs.Apply.{along}
 use Rattle.kernel.proofs.Along.{place-some, place-le, place-first}
-use Rattle.kernel.proofs.Follows.{Walk, walk-start, walk-le, walk-step, walk-done}
+use Rattle.kernel.proofs.Applies.{Walk, walk-start, walk-le, walk-step, walk-done}
 use borrow.Author.Needs.{needs}
 use native.Mathlib.Omega.{arith}
-use Rattle.kernel.proofs.follow_marks.Statement.{statement}
-use Rattle.kernel.proofs.follow_marks.Tie as tie
+use Rattle.kernel.proofs.apply_marked_rules.Statement.{statement}
+use Rattle.kernel.proofs.apply_marked_rules.Tie as tie
 
 abbrev Inv-loop : tie.InvT-loop
-Inv-loop image table marks r column a f₀ head x₀ end f x = (x₀ ≤ x) × (x ≤ end) × (end ≤ 256) × Walk (along marks r a column) x₀ table f₀ f (x - x₀)
+Inv-loop image grouped marks r column a f₀ head x₀ end f x = (x₀ ≤ x) × (x ≤ end) × (end ≤ 256) × Walk (along marks r a column) x₀ grouped f₀ f (x - x₀)
 
 abbrev μ-loop : tie.MeasureT-loop
-μ-loop image table marks r column a f₀ head x₀ end f x = end - x
+μ-loop image grouped marks r column a f₀ head x₀ end f x = end - x
 
 -- where the group lies
-ends : (s : tie.Start Inv-loop μ-loop) → Ends (decode (s .args .image .now)) (s .args .table .now) (s .args .a)
+ends : (s : tie.Start Inv-loop μ-loop) → Ends (decode (s .args .image .now)) (s .args .grouped .now) (s .args .a)
 ends s = ends-of _ _ _ (s .pre .1 .0) (s .pre .0 .sound .range .pairs) (s .pre .1 .1 .1 .0)
 
 mul-head : tie.Need-mul-head Inv-loop μ-loop
@@ -47,7 +47,7 @@ loop-holds : tie.Need-loop-holds Inv-loop μ-loop
 loop-holds c =
     let s = c .before .before .before .before .before in
     let e = ends s in
-    (omega arith, omega (arith, e .from, e .to), e .few, rw (self (groupFrom (s .args .table .now) (s .args .a))) (walk-start _ _ _ _))
+    (omega arith, omega (arith, e .from, e .to), e .few, rw (self (groupFrom (s .args .grouped .now) (s .args .a))) (walk-start _ _ _ _))
   where
     self : (x : ℕ) → x - x ≡ 0
     self x = omega arith
@@ -92,7 +92,7 @@ note-requires c κs =
       omega (
         arith,
         walk-le _ _ _ _ _ _ 128 (λ y h. place-le _ _ (s .pre .1 .0) (parts-small _ (s .pre .0 .sound)) (s .args .marks .now) (s .args .r) (s .args .column .now)
-            (s .args .a) (groupFrom (s .args .table .now) (s .args .a) + y) (s .pre .1 .1 .1 .0) (omega (arith, e .from)) (omega (arith, e .from, e .to))) (l .inv .3),
+            (s .args .a) (groupFrom (s .args .grouped .now) (s .args .a) + y) (s .pre .1 .1 .1 .0) (omega (arith, e .from)) (omega (arith, e .from, e .to))) (l .inv .3),
         s .pre .1 .1 .1 .1,
       ),
       c .meeting .ensures .1,
@@ -109,7 +109,7 @@ loop-again c =
     let s = c .before .before .before .before .before .before .before .before .before .before .before .before in
     let l = c .before .before .before .before .before .before .loop in
     let e = ends s in
-    let o = groupFrom (s .args .table .now) (s .args .a) in
+    let o = groupFrom (s .args .grouped .now) (s .args .a) in
     let d : l .x + 1 - o ≡ l .x - o + 1 = omega arith in (
       omega arith,
       omega arith,
@@ -126,12 +126,12 @@ returns c =
     let e = ends s in
     let g = decode (s .args .image .now) in
     let m = along (s .args .marks .now) (s .args .r) (s .args .a) (s .args .column .now) in
-    let d : l .x - groupFrom (s .args .table .now) (s .args .a) ≡ lefts g (s .args .a) (pairCount g) = omega (arith, e .from, e .to) in
+    let d : l .x - groupFrom (s .args .grouped .now) (s .args .a) ≡ lefts g (s .args .a) (pairCount g) = omega (arith, e .from, e .to) in
     walk-done g _ (s .pre .1 .0) m (s .args .a) (s .pre .1 .1 .1 .0) _ _
-    (subst₂ (λ (o n : ℕ). Walk m o (s .args .table .now) (s .args .into) (l .f) n) (e .from) d (l .inv .3))
+    (subst₂ (λ (o n : ℕ). Walk m o (s .args .grouped .now) (s .args .into) (l .f) n) (e .from) d (l .inv .3))
 
-pub follow-marks-spec : {M : Type 1} → statement M
-follow-marks-spec =
+pub apply-marked-rules-spec : {M : Type 1} → statement M
+apply-marked-rules-spec =
     tie.close
     (tie.spec
     Inv-loop

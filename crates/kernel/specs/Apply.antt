@@ -19,7 +19,7 @@ matching m R S = m R
 unfoldable pub concluding : (ℕ → ℕ) → ℕ → ℕ → ℕ → ℕ
 concluding m A R S = m R * bit S A
 
-pub record Followed (g : Grammar) (m : ℕ → ℕ) (a : ℕ) (was now : Fired) : Type 0 where
+pub record Applied (g : Grammar) (m : ℕ → ℕ) (a : ℕ) (was now : Fired) : Type 0 where
   pub word : (A : ℕ) → bit (now .word) A ≡ max (bit (was .word) A) (min 1 (byLeft g a (concluding m A) (pairCount g)))
   pub count : now .count ≡ was .count + byLeft g a (matching m) (pairCount g)
 
@@ -37,7 +37,7 @@ abbrev pub readyWords : ℕ
 readyWords = 128
 
 pub record ReadyAt (g : Grammar) (v a : ℕ) (t : List ℕ) : Type 0 where
-  pub made : Followed g (over v) a (record { word = 0; count = 0 }) (record { word = getD t (2 * a) 0; count = getD t (2 * a + 1) 0 })
+  pub made : Applied g (over v) a (record { word = 0; count = 0 }) (record { word = getD t (2 * a) 0; count = getD t (2 * a + 1) 0 })
 
 pub record Ready (g : Grammar) (v u : ℕ) (t : List ℕ) : Type 0 where
   pub long : length t ≡ readyWords

@@ -6,22 +6,22 @@ use Rattle.derivation.specs.Grammar.{pairCount}
 use Rattle.layout.specs.Layout.{decode}
 use Rattle.groups.specs.Group.{lefts, groupFrom}
 use Rattle.groups.proofs.Places.{Ends, ends-of}
-use Rattle.kernel.specs.Follow.{over}
+use Rattle.kernel.specs.Apply.{over}
 use Rattle.kernel.proofs.Pairs.{over-is, over-le}
-use Rattle.kernel.proofs.Follows.{Walk, walk-start, walk-le, walk-step, walk-done}
+use Rattle.kernel.proofs.Applies.{Walk, walk-start, walk-le, walk-step, walk-done}
 use borrow.Author.Needs.{needs}
 use native.Mathlib.Omega.{arith}
-use Rattle.kernel.proofs.follow.Statement.{statement}
-use Rattle.kernel.proofs.follow.Tie as tie
+use Rattle.kernel.proofs.apply_rules.Statement.{statement}
+use Rattle.kernel.proofs.apply_rules.Tie as tie
 
 abbrev Inv-loop : tie.InvT-loop
-Inv-loop image table a right f₀ head x₀ end f x = (x₀ ≤ x) × (x ≤ end) × (end ≤ 256) × Walk (over right) x₀ table f₀ f (x - x₀)
+Inv-loop image grouped a right f₀ head x₀ end f x = (x₀ ≤ x) × (x ≤ end) × (end ≤ 256) × Walk (over right) x₀ grouped f₀ f (x - x₀)
 
 abbrev μ-loop : tie.MeasureT-loop
-μ-loop image table a right f₀ head x₀ end f x = end - x
+μ-loop image grouped a right f₀ head x₀ end f x = end - x
 
 -- where the group lies
-ends : (s : tie.Start Inv-loop μ-loop) → Ends (decode (s .args .image .now)) (s .args .table .now) (s .args .a)
+ends : (s : tie.Start Inv-loop μ-loop) → Ends (decode (s .args .image .now)) (s .args .grouped .now) (s .args .a)
 ends s = ends-of _ _ _ (s .pre .1 .0) (s .pre .0 .sound .range .pairs) (s .pre .1 .1 .0)
 
 mul-head : tie.Need-mul-head Inv-loop μ-loop
@@ -46,7 +46,7 @@ loop-holds : tie.Need-loop-holds Inv-loop μ-loop
 loop-holds c =
     let s = c .before .before .before in
     let e = ends s in
-    (omega arith, omega (arith, e .from, e .to), e .few, rw (self (groupFrom (s .args .table .now) (s .args .a))) (walk-start _ _ _ _))
+    (omega arith, omega (arith, e .from, e .to), e .few, rw (self (groupFrom (s .args .grouped .now) (s .args .a))) (walk-start _ _ _ _))
   where
     self : (x : ℕ) → x - x ≡ 0
     self x = omega arith
@@ -91,7 +91,7 @@ loop-again : tie.Need-loop-again Inv-loop μ-loop
 loop-again c =
     let l = c .before .before .before .before .before .loop in
     let s = c .before .before .before .before .before .before .before .before .before .args in
-    let o = groupFrom (s .table .now) (s .a) in
+    let o = groupFrom (s .grouped .now) (s .a) in
     let d : l .x + 1 - o ≡ l .x - o + 1 = omega arith in
     (omega arith, omega arith, omega arith, rw d (walk-step _ _ _ _ _ _ (l .x - o) (l .x) _ (l .inv .3) (omega arith) (c .before .shares .ensures .0 ∙ sym (over-is _ _)) (c .note .ensures)))
 
@@ -101,12 +101,12 @@ returns c =
     let s = c .before .before .before .before .before in
     let e = ends s in
     let g = decode (s .args .image .now) in
-    let d : l .x - groupFrom (s .args .table .now) (s .args .a) ≡ lefts g (s .args .a) (pairCount g) = omega (arith, e .from, e .to) in
+    let d : l .x - groupFrom (s .args .grouped .now) (s .args .a) ≡ lefts g (s .args .a) (pairCount g) = omega (arith, e .from, e .to) in
     walk-done g _ (s .pre .1 .0) (over (s .args .right)) (s .args .a) (s .pre .1 .1 .0) _ _
-    (subst₂ (λ (o m : ℕ). Walk (over (s .args .right)) o (s .args .table .now) (s .args .into) (l .f) m) (e .from) d (l .inv .3))
+    (subst₂ (λ (o m : ℕ). Walk (over (s .args .right)) o (s .args .grouped .now) (s .args .into) (l .f) m) (e .from) d (l .inv .3))
 
-pub follow-spec : {M : Type 1} → statement M
-follow-spec =
+pub apply-rules-spec : {M : Type 1} → statement M
+apply-rules-spec =
     tie.close
     (tie.spec
     Inv-loop

@@ -15,9 +15,9 @@ use Rattle.derivation.specs.Grammar.{Grammar, pairCount}
 use Rattle.kernel.specs.declared.Fired.{Fired}
 use Rattle.kernel.specs.Fire.{Noted}
 use Rattle.groups.specs.Group.{lefts, startOf, placeRight, placeSymbol, Grouped}
-use Rattle.kernel.specs.Follow.{matching, concluding, Followed}
+use Rattle.kernel.specs.Apply.{matching, concluding, Applied}
 
--- F of the rule at place `from + y` of the table
+-- F of the rule at place `from + y` of the regrouped rules
 unfoldable pub ruleAt : ℕ → List ℕ → (ℕ → ℕ → ℕ) → ℕ → ℕ
 ruleAt from t F y = F (placeRight t (from + y)) (placeSymbol t (from + y))
 
@@ -59,7 +59,7 @@ module _ (m : ℕ → ℕ) (from : ℕ) (t : List ℕ) where
 
 -- all of the group
 pub walk-done : (g : Grammar) (t : List ℕ) → Grouped g t → (m : ℕ → ℕ) (a : ℕ) → a < 64 → (was f : Fired)
-    → Walk m (startOf g a) t was f (lefts g a (pairCount g)) → Followed g m a was f
+    → Walk m (startOf g a) t was f (lefts g a (pairCount g)) → Applied g m a was f
 unfolding ruleAt
 walk-done g t p m a h was f w = record {
   word = λ A. w .word A ∙ ap (λ (s : ℕ). max (bit (was .word) A) (min 1 s)) (p .sums (concluding m A) a h);
