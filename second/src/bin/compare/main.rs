@@ -5,47 +5,16 @@
 //! script is turned into the other and back, if a script of a page is asked for alone, and if the
 //! events of a session are judged afresh. Stops at the first difference.
 
-mod again;
 mod calls;
-mod case;
-mod changes;
-mod columns;
-mod damage;
-mod dead;
+mod comparisons;
 mod draw;
-mod expected;
-mod filled;
-mod grown;
-mod layered;
-mod layouts;
-mod lent;
 mod notes;
-mod numbers;
-mod pages;
 mod plan;
-mod proved;
-mod quiet;
-mod remarks;
-mod scripts;
-mod seams;
-mod sessions;
-mod setting;
-mod sides;
-mod strange;
-mod symbols;
-mod tally;
-mod versions;
 
-use again::again;
-use calls::{compare_again, compared};
-use case::Case;
-use damage::FAULTS;
-use second::random::Random;
-use sessions::Sessions;
-use sides::{Answer, SECOND};
+use comparisons::one_case::compare;
+use notes::expected::expected;
+use notes::tally::Tally;
 use std::process::ExitCode;
-use tally::Tally;
-use versions::in_any_version;
 
 /// In so many cases everything that is expected must occur.
 const ENOUGH: u64 = 20_000;
@@ -109,7 +78,7 @@ fn main() -> ExitCode {
 
 /// What occurred too rarely in so many cases.
 fn too_rare(tally: &Tally, cases: u64) -> Vec<String> {
-    let never = tally.missing(&expected::expected());
+    let never = tally.missing(&expected());
     let mut too_rare: Vec<_> = never
         .iter()
         .map(|what| format!("never occurred: {what}"))
@@ -119,32 +88,4 @@ fn too_rare(tally: &Tally, cases: u64) -> Vec<String> {
         too_rare.push(format!("only {accepted} images were accepted"));
     }
     too_rare
-}
-
-/// One case. It depends on nothing but the seed and its own number.
-fn compare(seed: u64, case: u64, tally: &mut Tally) -> Result<(), String> {
-    let mut random = Random::new(Random::new(seed).word() ^ case);
-    let (name, _, meant, draw) = draw::any_kind(&mut random);
-    tally.add(format!("kind: {name}"));
-    let drawn = draw(&mut random);
-    let (mut image, events) = in_any_version(&mut random, drawn);
-    for _ in 0..random.one_of(&[0, 0, 0, 0, 0, 0, 1, 1, 2, 3]) {
-        let (name, fault) = random.one_of(&FAULTS);
-        tally.add(format!("damage: {name}"));
-        fault(&mut random, &mut image);
-    }
-    let Answer { number, .. } = (SECOND.test)(&image);
-    tally.add(format!("image: number {number}"));
-    if number == meant {
-        tally.add(format!("kind: {name}, number {number}"));
-    }
-    for step in plan::steps(&mut Case::new(&mut random, tally, &image, &events)) {
-        let second = compared(&mut random, tally, &step.setting)?;
-        if let Some((again, told)) = again(&mut random, &second) {
-            tally.add(format!("{}: told again", step.setting.service()));
-            compare_again(&again, &told)?;
-        }
-        notes::note(tally, &step, &second);
-    }
-    Sessions::new(&mut random, tally, &image, &events).compare()
 }
