@@ -4,6 +4,7 @@
 //! reader with itself if a version 1 image is replaced by its twin of version 2, if a number or a
 //! script is turned into the other and back, if a script of a page is asked for alone, and if the
 //! events of a session are judged afresh. Stops at the first difference.
+#![forbid(unsafe_code)]
 
 mod calls;
 mod comparisons;
