@@ -5,7 +5,7 @@
 
 mod alike;
 mod answers;
-mod archive;
+mod archived;
 #[cfg(before)]
 mod before;
 mod case;
