@@ -9,8 +9,9 @@ use Prim.Native.Nat.{ℕ, zero, suc, _+_, _-_, _<_, min}
 use lib.Dec.{eqb, ltb}
 use lib.ListN.{length, getD}
 use Rattle.derivation.specs.Grammar.{Grammar, leafCount, pairCount, eventRule, pairRule}
-use Rattle.derivation.specs.Tree.{Tree, leaf, node}
+use Rattle.derivation.specs.Tree.{Tree, leaf, node, script}
 use Rattle.derivation.specs.Reading.{Reading, quiet, derived, spelling}
+use Rattle.derivation.specs.Numbering.{none, Place}
 
 -- ---- lists
 
@@ -84,9 +85,12 @@ unfoldable pub pageOf : Grammar → List ℕ → (k c : ℕ) → List ℕ
 pageOf g w k c = join c (λ x. spelling (getD (readings g w) (k + x) quiet))
 
 -- s is the script of reading number q
-pub record NumberOf (g : Grammar) (w s : List ℕ) (q : ℕ) : Type 0 where
-  pub below : q < length (readings g w)
-  pub spelt : spelling (getD (readings g w) q quiet) ≡ s
+abbrev pub NumberOf : Grammar → (w s : List ℕ) → ℕ → Type 0
+NumberOf g w s q = Place spelling quiet (readings g w) s q
+
+-- s is the script of derivation number q of A over (i, k)
+abbrev pub RankOf : Grammar → List ℕ → (A i k : ℕ) → List ℕ → ℕ → Type 0
+RankOf g w A i k s q = Place script none (derivations g w A i k) s q
 
 -- ---- how many
 

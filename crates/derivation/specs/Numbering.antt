@@ -19,6 +19,11 @@ pub record Numbers {X : Type 0} (Is : X → Type 0) (scriptOf : X → List ℕ) 
   -- a smaller number means an earlier script; so none has two
   pub earlier : (p q : ℕ) → p < q → q < length l → Before (scriptOf (getD l p past)) (scriptOf (getD l q past))
 
+-- q is the place in l of what has the script s
+pub record Place {X : Type 0} (scriptOf : X → List ℕ) (past : X) (l : List X) (s : List ℕ) (q : ℕ) : Type 0 where
+  pub below : q < length l
+  pub spelt : scriptOf (getD l q past) ≡ s
+
 -- l numbers the readings of w: demand 3
 abbrev pub NumbersReadings : Grammar → List ℕ → List Reading → Type 0
 NumbersReadings g w l = Numbers (Reads g w) spelling quiet l

@@ -12,7 +12,7 @@ use Rattle.derivation.specs.Grammar.{Grammar, leafCount, pairCount, pairRule}
 use Rattle.derivation.specs.Sound.{Sound}
 use Rattle.derivation.specs.Tree.{Tree, leaf, node, Derives, script, scriptWords, Spells}
 use Rattle.derivation.specs.Reading.{IsReading}
-use Rattle.derivation.specs.Derivations.{derivations, NumberOf, count}
+use Rattle.derivation.specs.Derivations.{derivations, NumberOf, RankOf, count}
 use Rattle.derivation.specs.Numbering.{none}
 use Rattle.derivation.proofs.Counts.{bySplit, byPair, count-of}
 use Rattle.derivation.proofs.Places.{leaf-first, node-at, node-room}
@@ -24,11 +24,12 @@ use Rattle.table.specs.Fill.{CountsIn}
 use Rattle.table.proofs.Held.{held-mul, held-once, held-plus, held-between}
 use Rattle.table.proofs.Adds.{ready-in, split-counted, pairs-counted}
 use Rattle.follow.proofs.Spelling.{left-words, right-words, node-script}
-use Rattle.rank.specs.Rank.{RankOf, HeldOf, placeOf}
+use Rattle.rank.specs.Rank.{HeldOf, placeOf}
 
 module _ (g : Grammar) (o : Sound g) (w : List ℕ) where
   -- ---- over one event
   pub leaf-ranked : (A i k : ℕ) (s : List ℕ) → k ≡ i + 1 → Spells g w A i k s → HeldOf (RankOf g w A i k s) 0
+  unfolding count
   leaf-ranked A i k s e p = record { number = 0; is = record { below = count-of g w A i k (p .tree, p .derives); spelt = go (p .tree) (p .derives) ∙ p .spelt }; shown = refl }
     where
       go : (t : Tree) → Derives g w A i k t → script (getD (derivations g w A i k) 0 none) ≡ script t
@@ -61,6 +62,7 @@ module _ (g : Grammar) (o : Sound g) (w : List ℕ) where
     pub node-ranked : (s : List ℕ) → length s ≡ scriptWords (k - i) → leafCount g + b ≡ getD s 0 0 → j ≡ getD s 1 0 → (u v x : ℕ)
         → HeldOf (RankOf g w B i j (left-words (4 * (j - i)) s)) u → HeldOf (RankOf g w C j k (right-words (4 * (j - i)) s)) v
         → x ≡ held (placeOf g t i k b j u v) → HeldOf (RankOf g w A i k s) x
+    unfolding count
     node-ranked s l er ej u v x p q e =
         let a = p .is in
         let d = q .is in
@@ -76,6 +78,7 @@ module _ (g : Grammar) (o : Sound g) (w : List ℕ) where
 
   -- ---- a whole record
   pub reading-ranked : 0 < length w → (s : List ℕ) (x : ℕ) → HeldOf (RankOf g w 0 0 (length w) s) x → HeldOf (NumberOf g w s) x
+  unfolding count
   reading-ranked some s x p =
       let below = rw (← (count-events g w some)) at (p .is .below) in
       record { number = p .number; is = record { below = below; spelt = reading-at g w some (p .number) below ∙ p .is .spelt }; shown = p .shown }

@@ -6,16 +6,8 @@ use Prim.Native.Nat.{ℕ, _+_, _*_, _<_}
 use lib.ListN.{getD}
 use Rattle.bits.specs.Sum.{sum, between}
 use Rattle.derivation.specs.Grammar.{Grammar, pairRule}
-use Rattle.derivation.specs.Tree.{script}
-use Rattle.derivation.specs.Derivations.{derivations, count}
-use Rattle.derivation.specs.Numbering.{none}
 use Rattle.table.specs.Table.{held, slotOf}
 use Rattle.table.specs.Fill.{splitAdds, pairAdds}
-
--- s is the script of derivation number q of A over i to k
-pub record RankOf (g : Grammar) (w : List ℕ) (A i k : ℕ) (s : List ℕ) (q : ℕ) : Type 0 where
-  pub below : q < count g w A i k
-  pub spelt : script (getD (derivations g w A i k) q none) ≡ s
 
 -- x is a number of which P holds, held at the limit
 pub record HeldOf (P : ℕ → Type 0) (x : ℕ) : Type 0 where

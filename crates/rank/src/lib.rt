@@ -6,11 +6,11 @@ ghost use Prim.Native.Nat.{_≤_, _<_};
 ghost use lib.ListN.{length};
 ghost use Rattle.derivation.specs.Tree.{Spells};
 ghost use Rattle.derivation.specs.Reading.{IsReading};
-ghost use Rattle.derivation.specs.Derivations.{NumberOf};
+ghost use Rattle.derivation.specs.Derivations.{NumberOf, RankOf};
 ghost use Rattle.layout.specs.Layout.{decode};
 ghost use Rattle.image.specs.Image.{Accepted};
 ghost use Rattle.table.specs.Fill.{CountsIn};
-ghost use Rattle.rank.specs.Rank.{RankOf, HeldOf};
+ghost use Rattle.rank.specs.Rank.{HeldOf};
 
 // The number of a script among those of the symbol over i to k, held at the limit. Over one event there is no other: no two event rules are
 // the same.
