@@ -1,6 +1,9 @@
--- What is written: the numbers of a refusal, the heading, the lines of the scripts in a room one more at a time; and one outcome only.
+-- What is written: the numbers of a refusal, the heading, the lines of the scripts in a room one more at a time, of two files or of none; and
+-- one outcome only.
 -- Assumes nothing.
 use mathlib.Core.Path.{_≡_, refl, sym, ap, ap₂, _∙_}
+use mathlib.Core.Logic.{⊎-elim}
+use mathlib.Core.Bool.{Bool, true, false, _&&_, true≢false}
 use mathlib.Core.List.{List, [], _∷_, _++_, append-assoc, append-nil}
 use Prim.Native.Nat.{ℕ, zero, suc, _+_, _-_, _*_, _≤_, _<_}
 use native.Mathlib.Nat.{zero-mul, suc-mul, mul-le-mul-right}
@@ -9,13 +12,14 @@ use native.Mathlib.Decide.{ℕ-discrete}
 use native.Mathlib.Omega.{arith}
 use borrow.Author.Tests.{eq-eqb, ne-eqb}
 use lib.ListN.{length, getD, take, drop}
-use lib.Seq.{take-suc}
+use lib.Seq.{take-suc, length-take-le}
+use Rattle.bits.proofs.Truths.{lt-or-ge}
 use Rattle.derivation.specs.Derivations.{join}
 use Rattle.image.proofs.Refusals.{first-only}
 use Rattle.image.proofs.Named.{names-same}
 use Rattle.table.specs.Table.{limit}
 use Rattle.text.specs.Text.{line}
-use Rattle.listing.specs.Listing.{lineBytes, refusedWords, refusedLine, orMore, lines, ListingIs}
+use Rattle.listing.specs.Listing.{mostBytes, lineBytes, refusedWords, refusedLine, orMore, lines, ListingIs, noFileLine, OutputIs, Written}
 
 -- ---- one piece behind the other
 pub heading-text : (h n m t u v x : List ℕ) → t ≡ h → u ≡ t ++ n → v ≡ u ++ m → x ≡ v ++ (10 ∷ []) → x ≡ h ++ (n ++ (m ++ (10 ∷ [])))
@@ -96,6 +100,14 @@ module _ (room : List ℕ) (n : ℕ) where
         same : line (take (from + n - from) (drop from room)) ≡ line (take n (drop (x * n) room))
         same = rw (size, v .place)
 
+-- ---- of two files, or of none
+module _ (g h : Bool) (b e out : List ℕ) where
+  pub both-there : g && h ≡ true → ListingIs b e out → OutputIs g b h e out
+  both-there t p = record { noFile = λ f. absurd (true≢false (sym t ∙ f)); listed = λ _. p }
+
+  pub one-not-there : g && h ≡ false → out ≡ noFileLine → OutputIs g b h e out
+  one-not-there f p = record { noFile = λ _. p; listed = λ t. absurd (true≢false (sym t ∙ f)) }
+
 -- ---- one outcome only
 pub listing-only : (b e o u : List ℕ) → ListingIs b e o → ListingIs b e u → o ≡ u
 listing-only b e o u p q = go (ℕ-discrete (p .number) 0)
@@ -106,3 +118,24 @@ listing-only b e o u p q = go (ℕ-discrete (p .number) 0)
     go : Dec (p .number ≡ 0) → o ≡ u
     go (yes z) = p .listed z ∙ sym (q .listed (sym s ∙ z))
     go (no z) = p .refused z ∙ ap₂ refusedLine s (names-same s (p .names) (q .names)) ∙ sym (q .refused (λ f. z (s ∙ f)))
+
+pub output-only : (g h : Bool) (b e o u : List ℕ) → OutputIs g b h e o → OutputIs g b h e u → o ≡ u
+output-only g h b e o u p q = go (g && h) refl
+  where
+    go : (x : Bool) → g && h ≡ x → o ≡ u
+    go true t = listing-only b e o u (p .listed t) (q .listed t)
+    go false f = p .noFile f ∙ sym (q .noFile f)
+
+pub written-only : (g h : Bool) (b e before after later : List ℕ) (r s : ℕ) → Written g b h e before r after → Written g b h e before s later
+    → (r ≡ s) × (take r after ≡ take s later)
+written-only g h b e before after later r s p q = ⊎-elim short enough (lt-or-ge (length before) mostBytes)
+  where
+    short : length before < mostBytes → (r ≡ s) × (take r after ≡ take s later)
+    short l = let x = p .short l in let y = q .short l in (x .0 ∙ sym (y .0), ap₂ take (x .0 ∙ sym (y .0)) (x .1 ∙ sym (y .1)))
+
+    enough : mostBytes ≤ length before → (r ≡ s) × (take r after ≡ take s later)
+    enough l =
+        let x = p .enough l in
+        let y = q .enough l in
+        let t = output-only g h b e (take r after) (take s later) (x .1) (y .1) in
+        (sym (length-take-le r after (x .0)) ∙ ap length t ∙ length-take-le s later (y .0), t)

@@ -3,10 +3,11 @@
 -- Assumes nothing.
 use mathlib.Core.Path.{_≡_, subst}
 use mathlib.Core.Logic.{_⊎_, inl, inr, _≢_, ⊎-elim}
+use mathlib.Core.Bool.{Bool}
 use mathlib.Core.List.{List}
 use Prim.Native.Nat.{ℕ, _+_, _≤_, _<_}
 use native.Mathlib.Omega.{arith}
-use lib.ListN.{length, take}
+use lib.ListN.{length}
 use lib.Seq.{getD-take, length-take-le, take-all}
 use Rattle.image.specs.Refusal.{First, AllHold}
 use Rattle.image.specs.Image.{imageRows, longestImage}
@@ -14,16 +15,16 @@ use Rattle.image.proofs.Refusals.{all-hold, first-hit, alone, behind}
 use Rattle.image.proofs.Images.{holding, accepted-short}
 use Rattle.image.proofs.Long.{begins-alike, long-names}
 use Rattle.bits.proofs.Truths.{lt-or-ge}
-use Rattle.listing.specs.Listing.{mostEventBytes, fileRows, ListingIs}
+use Rattle.listing.specs.Listing.{mostEventBytes, fileRows, ListingIs, OutputIs, grammarStart, eventsStart}
 use Rattle.listing.proofs.Refuses.{passed}
 
 module _ (b e o : List ℕ) where
   -- the first bytes
   abbrev d : List ℕ
-  d = take (longestImage + 1) b
+  d = grammarStart b
 
   abbrev f : List ℕ
-  f = take (mostEventBytes + 1) e
+  f = eventsStart e
 
   long-image : longestImage < length b → ListingIs d e o → ListingIs b e o
   long-image l p = record {
@@ -61,15 +62,19 @@ module _ (b e o : List ℕ) where
       size = length-take-le (mostEventBytes + 1) e (omega arith)
 
 -- what is listed of the first bytes is what is listed of all
-pub first-bytes : (b e o : List ℕ) → ListingIs (take (longestImage + 1) b) (take (mostEventBytes + 1) e) o → ListingIs b e o
+pub first-bytes : (b e o : List ℕ) → ListingIs (grammarStart b) (eventsStart e) o → ListingIs b e o
 first-bytes b e o p = events (lt-or-ge mostEventBytes (length e))
   where
-    image : ListingIs b (take (mostEventBytes + 1) e) o
+    image : ListingIs b (eventsStart e) o
     image =
-        ⊎-elim (λ (l : longestImage < length b). long-image b (take (mostEventBytes + 1) e) o l p)
-        (λ (l : length b ≤ longestImage). subst (λ (x : List ℕ). ListingIs x (take (mostEventBytes + 1) e) o) (take-all (longestImage + 1) b (omega arith)) p)
+        ⊎-elim (λ (l : longestImage < length b). long-image b (eventsStart e) o l p)
+        (λ (l : length b ≤ longestImage). subst (λ (x : List ℕ). ListingIs x (eventsStart e) o) (take-all (longestImage + 1) b (omega arith)) p)
         (lt-or-ge longestImage (length b))
 
     events : (mostEventBytes < length e) ⊎ (length e ≤ mostEventBytes) → ListingIs b e o
     events (inl l) = long-events b e o l image
     events (inr l) = subst (λ (x : List ℕ). ListingIs b x o) (take-all (mostEventBytes + 1) e (omega arith)) image
+
+-- and so is all that is written
+pub first-read : (g h : Bool) (b e o : List ℕ) → OutputIs g (grammarStart b) h (eventsStart e) o → OutputIs g b h e o
+first-read g h b e o p = record { noFile = p .noFile; listed = λ t. first-bytes b e o (p .listed t) }

@@ -1,8 +1,8 @@
--- What the program writes for the bytes b of a grammar file and the bytes e of an event file, whatever they are.
+-- What the program writes for the bytes b of a grammar file and the bytes e of an event file, whatever they are, and where one cannot be read.
 -- Assumes nothing.
 use mathlib.Core.Path.{_≡_}
 use mathlib.Core.Logic.{_≢_}
-use mathlib.Core.Bool.{cond}
+use mathlib.Core.Bool.{Bool, true, false, cond, _&&_}
 use mathlib.Core.List.{List, [], _∷_, _++_}
 use Prim.Native.Nat.{ℕ, _+_, _*_, _%_, _≤_, _<_}
 use lib.Dec.{eqb}
@@ -12,7 +12,7 @@ use Rattle.derivation.specs.Tree.{scriptWords}
 use Rattle.derivation.specs.Derivations.{scripts}
 use Rattle.layout.specs.Layout.{decode}
 use Rattle.image.specs.Refusal.{Row, _unless_, First}
-use Rattle.image.specs.Image.{mostEvents, imageRows, Names}
+use Rattle.image.specs.Image.{mostEvents, longestImage, imageRows, Names}
 use Rattle.table.specs.Table.{limit, held, tableWords}
 use Rattle.readings.specs.Count.{howMany}
 use Rattle.text.specs.Text.{text, line, words}
@@ -66,7 +66,7 @@ lines (s ∷ ss) = line s ++ lines ss
 abbrev pub listing : Grammar → List ℕ → List ℕ
 listing g w = heading (held (howMany g w)) ++ lines (take mostListed (scripts g w))
 
--- ---- all of it: out is what is written
+-- ---- of two files that were read: out is what is written
 pub record ListingIs (b e out : List ℕ) : Type 0 where
   pub number : ℕ
   pub rule : ℕ
@@ -74,6 +74,15 @@ pub record ListingIs (b e out : List ℕ) : Type 0 where
   pub names : Names (decode b) number rule
   pub refused : number ≢ 0 → out ≡ refusedLine number rule
   pub listed : number ≡ 0 → out ≡ listing (decode b) (words e)
+
+-- ---- all of it: of each file whether it could be opened and read, and its bytes, which count only where both could be
+-- "no file"
+abbrev pub noFileLine : List ℕ
+noFileLine = 110 ∷ 111 ∷ 32 ∷ 102 ∷ 105 ∷ 108 ∷ 101 ∷ 10 ∷ []
+
+pub record OutputIs (grammarRead : Bool) (b : List ℕ) (eventsRead : Bool) (e out : List ℕ) : Type 0 where
+  pub noFile : grammarRead && eventsRead ≡ false → out ≡ noFileLine
+  pub listed : grammarRead && eventsRead ≡ true → ListingIs b e out
 
 -- so many bytes are enough for a line: the words of the longest script, each of 5 digits and a byte behind it at most
 abbrev pub lineBytes : ℕ
@@ -83,7 +92,14 @@ lineBytes = 6 * scriptWords mostEvents + 1
 abbrev pub mostBytes : ℕ
 mostBytes = 64 + mostListed * lineBytes
 
--- with a lent room of so many bytes the listing stands in its first r; with less nothing is written
-pub record Written (b e before : List ℕ) (r : ℕ) (after : List ℕ) : Type 0 where
+-- with a lent room of so many bytes all of it stands in the first r; with less nothing is written
+pub record Written (grammarRead : Bool) (b : List ℕ) (eventsRead : Bool) (e before : List ℕ) (r : ℕ) (after : List ℕ) : Type 0 where
   pub short : length before < mostBytes → (r ≡ 0) × (after ≡ before)
-  pub enough : mostBytes ≤ length before → (r ≤ length after) × ListingIs b e (take r after)
+  pub enough : mostBytes ≤ length before → (r ≤ length after) × OutputIs grammarRead b eventsRead e (take r after)
+
+-- ---- so much of each file is read: one byte more than the longest that is not refused for its length
+abbrev pub grammarStart : List ℕ → List ℕ
+grammarStart b = take (longestImage + 1) b
+
+abbrev pub eventsStart : List ℕ → List ℕ
+eventsStart e = take (mostEventBytes + 1) e

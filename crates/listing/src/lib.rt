@@ -1,15 +1,16 @@
-// What the program writes, as bytes: a refusal, or how many readings a record has and the first of them.
+// What the program writes, as bytes: a refusal, or how many readings a record has and the first of them; or that a file is not there.
 mod refuse; // the refusals
 mod lines; // a line for each script
 
 ghost use mathlib.Core.Path.{_≡_};
+ghost use mathlib.Core.Bool.{_&&_};
 ghost use mathlib.Core.List.{[], _∷_, _++_};
 ghost use Prim.Native.Nat.{ℕ, _+_, _≤_, _<_};
 ghost use lib.ListN.{length, take};
 ghost use Rattle.layout.specs.Layout.{decode};
 ghost use Rattle.image.specs.Image.{Accepted, mostEvents};
 ghost use Rattle.table.specs.Table.{tableWords};
-ghost use Rattle.listing.specs.Listing.{mostWords, mostBytes, refusedWords, refusedLine, orMore, heading, listing, Written};
+ghost use Rattle.listing.specs.Listing.{mostWords, mostBytes, refusedWords, refusedLine, orMore, heading, listing, ListingIs, noFileLine, OutputIs, Written};
 
 // The scripts that are listed at most.
 const MOST_LISTED: u32 = 100;
@@ -87,13 +88,11 @@ fn write_readings(image: &[u8], events: &[u16], out: &mut [u8]) -> usize
     lines::write_lines(&room, words, paged.written, out, end)
 }
 
-// Writes the listing for the bytes of a grammar file and of an event file; answers how many bytes.
-pub fn write_listing(image: &[u8], events: &[u8], out: &mut [u8]) -> usize
-    ensures { λ r. ⌜ Written (now (image .entry)) (now (events .entry)) (now (out .entry)) r (now (out .exit)) ⌝ }
+// What is written of the bytes of two files: a refusal, or the listing.
+fn write_listing(image: &[u8], events: &[u8], out: &mut [u8]) -> usize
+    requires { ⌜ mostBytes ≤ length (now out) ⌝ }
+    ensures { λ r. ⌜ (r ≤ length (now (out .exit))) × ListingIs (now (image .entry)) (now (events .entry)) (take r (now (out .exit))) ⌝ }
 {
-    if out.len() < MOST_BYTES {
-        return 0;
-    }
     let refusal = refuse::program_refusal(image, events);
     let number = refusal.number;
     if number != 0 {
@@ -102,4 +101,55 @@ pub fn write_listing(image: &[u8], events: &[u8], out: &mut [u8]) -> usize
     let mut room = [0u16; image::MOST_EVENTS];
     let n = text::read_words(events, &mut room);
     write_readings(image, &room[..n], out)
+}
+
+fn write_no_file(out: &mut [u8]) -> usize
+    requires { ⌜ 64 ≤ length (now out) ⌝ }
+    ensures { λ r. ⌜ (r ≤ length (now (out .exit))) × (take r (now (out .exit)) ≡ noFileLine) ⌝ }
+{
+    text::put_bytes(out, 0, b"no file\n")
+}
+
+fn both(grammar_read: bool, events_read: bool) -> bool
+    ensures { λ r. ⌜ r ≡ «grammar_read» && «events_read» ⌝ }
+{
+    if grammar_read {
+        return events_read;
+    }
+    false
+}
+
+// What is written of two files, of which each could be opened and read, or not.
+fn write_files(
+    grammar_read: bool,
+    image: &[u8],
+    events_read: bool,
+    events: &[u8],
+    out: &mut [u8],
+) -> usize
+    requires { ⌜ mostBytes ≤ length (now out) ⌝ }
+    ensures { λ r. ⌜ (r ≤ length (now (out .exit)))
+        × OutputIs «grammar_read» (now (image .entry)) «events_read» (now (events .entry)) (take r (now (out .exit))) ⌝ }
+{
+    if both(grammar_read, events_read) {
+        return write_listing(image, events, out);
+    }
+    write_no_file(out)
+}
+
+// All that the program writes, for the bytes of a grammar file and of an event file, and whether each could be opened and read;
+// answers how many bytes.
+pub fn write_output(
+    grammar_read: bool,
+    image: &[u8],
+    events_read: bool,
+    events: &[u8],
+    out: &mut [u8],
+) -> usize
+    ensures { λ r. ⌜ Written «grammar_read» (now (image .entry)) «events_read» (now (events .entry)) (now (out .entry)) r (now (out .exit)) ⌝ }
+{
+    if out.len() < MOST_BYTES {
+        return 0;
+    }
+    write_files(grammar_read, image, events_read, events, out)
 }

@@ -20,9 +20,6 @@ use Rattle.listing.proofs.write_listing.Tie as tie
 taken : (e room r : List ℕ) (n : ℕ) → n ≡ length e / 2 → room ≡ words e ++ r → take n room ≡ words e
 taken e room r n h f = ap (take n) f ∙ take-at (words e) r n (length-words e ∙ sym h)
 
-returns : tie.Need-returns
-returns c = record { short = λ _. (refl, refl); enough = λ h. absurd (omega (arith, h, c .if1 .taken)) }
-
 program-refusal-requires : tie.Need-program-refusal-requires
 program-refusal-requires c κs = search needs
 
@@ -32,75 +29,60 @@ write-refused-requires c κs = search needs
 same-length : tie.Need-same-length
 same-length c = search needs
 
-returns-2 : tie.Need-returns-2
-returns-2 c =
-    record {
-      short = λ h. absurd (omega (arith, h, c .before .before .before .before .before .before .if1 .left));
-      enough = λ _. (
-        c .before .before .write-refused .ensures .0,
-        record {
-          number = _;
-          rule = _;
-          first = c .before .before .before .before .before .program-refusal .ensures .number;
-          names = c .before .before .before .before .before .program-refusal .ensures .rule;
-          refused = λ _. c .before .before .write-refused .ensures .1;
-          listed = λ z. absurd (c .before .before .before .before .if2 .taken z);
-        },
-      );
-    }
+returns : tie.Need-returns
+returns c =
+    let w = c .before .before .write-refused .ensures in
+    let f = c .before .before .before .before .before .program-refusal .ensures in
+    (w .0, record { number = _; rule = _; first = f .number; names = f .rule; refused = λ _. w .1; listed = λ z. absurd (c .before .before .before .before .if1 .taken z) })
 
 slice-aggregate-read-words : tie.Need-slice-aggregate-read-words
 slice-aggregate-read-words c = search needs
 
 read-words-requires : tie.Need-read-words-requires
-read-words-requires c κs = let p = passed (c .before .before .before .before .before .before .before .args .image .now) (c .before .before .before .before .before .before .before .args .events .now) _ (c .before .if2 .left) (c .before .before .program-refusal .ensures .number) in omega (arith, p .bytes)
+read-words-requires c κs = let p = passed (c .before .before .before .before .before .before .args .image .now) (c .before .before .before .before .before .before .args .events .now) _ (c .before .if1 .left) (c .before .before .program-refusal .ensures .number) in omega (arith, p .bytes)
 
 array-share-prefix-room : tie.Need-array-share-prefix-room
-array-share-prefix-room c = let p = passed (c .before .before .before .before .before .before .before .before .before .args .image .now) (c .before .before .before .before .before .before .before .before .before .args .events .now) _ (c .before .before .before .if2 .left) (c .before .before .before .before .program-refusal .ensures .number) in omega (arith, p .bytes, c .before .read-words .ensures .0)
+array-share-prefix-room c = let p = passed (c .before .before .before .before .before .before .before .before .args .image .now) (c .before .before .before .before .before .before .before .before .args .events .now) _ (c .before .before .before .if1 .left) (c .before .before .before .before .program-refusal .ensures .number) in omega (arith, p .bytes, c .before .read-words .ensures .0)
 
 slice-aggregate-write-readings : tie.Need-slice-aggregate-write-readings
-slice-aggregate-write-readings c = let p = passed (c .before .before .before .before .before .before .before .before .before .before .args .image .now) (c .before .before .before .before .before .before .before .before .before .before .args .events .now) _ (c .before .before .before .before .if2 .left) (c .before .before .before .before .before .program-refusal .ensures .number) in sym (length-take-le _ _ (omega (arith, p .bytes, c .before .before .read-words .ensures .0)))
+slice-aggregate-write-readings c = let p = passed (c .before .before .before .before .before .before .before .before .before .args .image .now) (c .before .before .before .before .before .before .before .before .before .args .events .now) _ (c .before .before .before .before .if1 .left) (c .before .before .before .before .before .program-refusal .ensures .number) in sym (length-take-le _ _ (omega (arith, p .bytes, c .before .before .read-words .ensures .0)))
 
 write-readings-requires : tie.Need-write-readings-requires
 write-readings-requires c κs =
-    let p = passed (c .before .before .before .before .before .before .before .before .before .before .before .args .image .now) (c .before .before .before .before .before .before .before .before .before .before .before .args .events .now) _ (c .before .before .before .before .before .if2 .left) (c .before .before .before .before .before .before .program-refusal .ensures .number) in
-    let e = taken (c .before .before .before .before .before .before .before .before .before .before .before .args .events .now) _ _ _ (c .before .before .before .read-words .ensures .0) (c .before .before .before .read-words .ensures .1) in
-    (p .image, ((rw e (p .few), rw e (p .fits)), omega (arith, c .before .before .before .before .before .before .before .if1 .left)))
+    let p = passed (c .before .before .before .before .before .before .before .before .before .before .args .image .now) (c .before .before .before .before .before .before .before .before .before .before .args .events .now) _ (c .before .before .before .before .before .if1 .left) (c .before .before .before .before .before .before .program-refusal .ensures .number) in
+    let e = taken (c .before .before .before .before .before .before .before .before .before .before .args .events .now) _ _ _ (c .before .before .before .read-words .ensures .0) (c .before .before .before .read-words .ensures .1) in
+    (p .image, ((rw e (p .few), rw e (p .fits)), c .before .before .before .before .before .before .before .before .before .before .pre))
 
 same-length-2 : tie.Need-same-length-2
 same-length-2 c = search needs
 
-returns-3 : tie.Need-returns-3
-returns-3 c =
-    let e = taken (c .before .before .before .before .before .before .before .before .before .before .before .before .before .before .args .events .now) _ _ _ (c .before .before .before .before .before .before .read-words .ensures .0) (c .before .before .before .before .before .before .read-words .ensures .1) in
-    record {
-      short = λ h. absurd (omega (arith, h, c .before .before .before .before .before .before .before .before .before .before .if1 .left));
-      enough = λ _. (
-        c .before .before .write-readings .ensures .0,
-        record {
-          number = 0;
-          rule = 0;
-          first = rw (c .before .before .before .before .before .before .before .before .if2 .left) at (c .before .before .before .before .before .before .before .before .before .program-refusal .ensures .number);
-          names = names-before (omega arith) refl;
-          refused = λ z. absurd (z refl);
-          listed = λ _. c .before .before .write-readings .ensures .1 ∙ ap (listing (decode (c .before .before .before .before .before .before .before .before .before .before .before .before .before .before .args .image .now))) e;
-        },
-      );
-    }
+returns-2 : tie.Need-returns-2
+returns-2 c =
+    let w = c .before .before .write-readings .ensures in
+    let e = taken (c .before .before .before .before .before .before .before .before .before .before .before .before .before .args .events .now) _ _ _ (c .before .before .before .before .before .before .read-words .ensures .0) (c .before .before .before .before .before .before .read-words .ensures .1) in (
+      w .0,
+      record {
+        number = 0;
+        rule = 0;
+        first = rw (c .before .before .before .before .before .before .before .before .if1 .left) at (c .before .before .before .before .before .before .before .before .before .program-refusal .ensures .number);
+        names = names-before (omega arith) refl;
+        refused = λ z. absurd (z refl);
+        listed = λ _. w .1 ∙ ap (listing (decode (c .before .before .before .before .before .before .before .before .before .before .before .before .before .args .image .now))) e;
+      },
+    )
 
 pub write-listing-spec : {M : Type 1} → statement M
 write-listing-spec =
     tie.close
     (tie.spec
-    returns
     program-refusal-requires
     write-refused-requires
     same-length
-    returns-2
+    returns
     slice-aggregate-read-words
     read-words-requires
     array-share-prefix-room
     slice-aggregate-write-readings
     write-readings-requires
     same-length-2
-    returns-3)
+    returns-2)

@@ -1,4 +1,4 @@
--- The room is as long as any listing, so what is written is a part of it.
+-- The bytes read are among those of the buffers, and the room is as long as anything that is written, so that it is a part of it.
 -- Assumes nothing.
 use mathlib.Core.Path.{sym}
 use native.Mathlib.Omega.{arith}
@@ -7,31 +7,55 @@ use borrow.Author.Needs.{needs}
 use Rattle.shell.proofs.show.Statement.{statement}
 use Rattle.shell.proofs.show.Tie as tie
 
-slice-aggregate-write-listing : tie.Need-slice-aggregate-write-listing
-slice-aggregate-write-listing c = search needs
+room-requires : tie.Need-room-requires
+room-requires c κs = search needs
 
-write-listing-requires : tie.Need-write-listing-requires
-write-listing-requires c κs = search needs
+slice-aggregate-write-output : tie.Need-slice-aggregate-write-output
+slice-aggregate-write-output c = sym (length-take-le _ _ (c .before .before .before .before .pre .1 .0))
+
+slice-aggregate-write-output-2 : tie.Need-slice-aggregate-write-output-2
+slice-aggregate-write-output-2 c = sym (length-take-le _ _ (c .before .before .before .before .before .pre .1 .1))
+
+slice-aggregate-write-output-3 : tie.Need-slice-aggregate-write-output-3
+slice-aggregate-write-output-3 c = search needs
+
+write-output-requires : tie.Need-write-output-requires
+write-output-requires c κs = search needs
 
 array-share-prefix-out : tie.Need-array-share-prefix-out
-array-share-prefix-out c = omega (arith, c .before .write-listing .ensures .enough (omega arith) .0)
+array-share-prefix-out c = omega (arith, c .before .write-output .ensures .enough (omega arith) .0)
 
 slice-aggregate-write-all : tie.Need-slice-aggregate-write-all
-slice-aggregate-write-all c = sym (length-take-le _ _ (c .before .before .write-listing .ensures .enough (omega arith) .0))
+slice-aggregate-write-all c = sym (length-take-le _ _ (c .before .before .write-output .ensures .enough (omega arith) .0))
 
 write-all-requires : tie.Need-write-all-requires
 write-all-requires c κs = search needs
 
+slice-aggregate-write-all-2 : tie.Need-slice-aggregate-write-all-2
+slice-aggregate-write-all-2 c = search needs
+
+write-all-requires-2 : tie.Need-write-all-requires-2
+write-all-requires-2 c κs = search needs
+
 returns : tie.Need-returns
 returns c = search needs
+
+returns-2 : tie.Need-returns-2
+returns-2 c = search needs
 
 pub show-spec : {M : Type 1} → statement M
 show-spec =
     tie.close
     (tie.spec
-    slice-aggregate-write-listing
-    write-listing-requires
+    room-requires
+    slice-aggregate-write-output
+    slice-aggregate-write-output-2
+    slice-aggregate-write-output-3
+    write-output-requires
     array-share-prefix-out
     slice-aggregate-write-all
     write-all-requires
-    returns)
+    slice-aggregate-write-all-2
+    write-all-requires-2
+    returns
+    returns-2)

@@ -1,0 +1,21 @@
+-- The line is all that stands up to the place behind it.
+-- Assumes nothing.
+use native.Mathlib.Omega.{arith}
+use borrow.Author.Needs.{needs}
+use Rattle.listing.proofs.write_no_file.Statement.{statement}
+use Rattle.listing.proofs.write_no_file.Tie as tie
+
+slice-aggregate-put-bytes : tie.Need-slice-aggregate-put-bytes
+slice-aggregate-put-bytes c = search needs
+
+put-bytes-requires : tie.Need-put-bytes-requires
+put-bytes-requires c κs = search needs
+
+same-length : tie.Need-same-length
+same-length c = search needs
+
+returns : tie.Need-returns
+returns c = (omega (arith, c .before .before .put-bytes .ensures .0), c .before .before .put-bytes .ensures .1)
+
+pub write-no-file-spec : {M : Type 1} → statement M
+write-no-file-spec = tie.close (tie.spec slice-aggregate-put-bytes put-bytes-requires same-length returns)
