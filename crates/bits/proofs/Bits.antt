@@ -8,7 +8,8 @@ use native.Mathlib.Omega.{arith}
 use lib.Bits.{bitAnd, bitOr, or-zero-l, and-step, and-shr, or-step, or-shr, shifted-even, shifted-half}
 use lib.Pow.{shr-shr, pow-mono}
 use Rattle.bits.specs.Truth.{same}
-use Rattle.bits.specs.Bit.{bit, put, meet}
+use Rattle.bits.specs.Bit.{bit}
+use Rattle.bits.specs.Word.{put, meet}
 
 pub bit-lt : (w a : ℕ) → bit w a < 2
 unfolding bit

@@ -8,7 +8,8 @@ use native.Mathlib.Decide.{ℕ-discrete}
 use native.Mathlib.Omega.{arith}
 use lib.Bits.{bitOr, or-add-and, and-le-r}
 use Rattle.bits.specs.Truth.{same}
-use Rattle.bits.specs.Bit.{bit, Has, put}
+use Rattle.bits.specs.Bit.{bit}
+use Rattle.bits.specs.Word.{Has, put}
 use Rattle.bits.proofs.Truths.{same-refl, same-other}
 use Rattle.bits.proofs.Bits.{bit-lt, bit-of-zero, bit-or, bit-one}
 

@@ -6,7 +6,8 @@ use native.Mathlib.Nat.{sub-zero, mul-le-mul-right}
 use native.Mathlib.Omega.{arith}
 use Rattle.bits.specs.Truth.{same}
 use Rattle.bits.specs.Sum.{sum}
-use Rattle.bits.specs.Bit.{bit, Without}
+use Rattle.bits.specs.Bit.{bit}
+use Rattle.bits.specs.Word.{Without}
 use Rattle.bits.proofs.Sums.{sum-cong, sum-zero, sum-add, sum-mono, sum-at}
 use Rattle.bits.proofs.Bits.{bit-of-zero}
 

@@ -1,4 +1,4 @@
--- Words in a row: what a function leaves of the others, and words that are 0.
+-- Promised: words in a row: what a function leaves of the others, and words that are 0.
 -- Assumes nothing.
 use mathlib.Core.Path.{_≡_}
 use mathlib.Core.List.{List}

@@ -1,4 +1,5 @@
 pub mod Truth
 pub mod Sum
 pub mod Bit
+pub mod Word
 pub mod Frame

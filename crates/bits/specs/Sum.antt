@@ -1,4 +1,4 @@
--- Sums: over the numbers below a bound, and over those between two.
+-- Promised: sums: over the numbers below a bound, and over those between two.
 -- Assumes nothing.
 use Prim.Native.Nat.{ℕ, zero, suc, _+_, _-_}
 

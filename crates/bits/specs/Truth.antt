@@ -1,4 +1,4 @@
--- Truth as an answer and as a number, and what holds of every number below a bound and of each of a list.
+-- Promised: truth as an answer and as a number, and what holds of every number below a bound and of each of a list.
 -- Assumes nothing.
 use Prim.Native.Nat.{ℕ, zero, suc, _<_}
 use mathlib.Core.Bool.{Bool, true, false}

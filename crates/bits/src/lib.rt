@@ -2,7 +2,8 @@
 ghost use mathlib.Core.Path.{_≡_};
 ghost use Prim.Native.Nat.{_≤_, _<_};
 ghost use Rattle.bits.specs.Sum.{sum};
-ghost use Rattle.bits.specs.Bit.{bit, put, Without};
+ghost use Rattle.bits.specs.Bit.{bit};
+ghost use Rattle.bits.specs.Word.{put, Without};
 
 // Bit a of a word: 0 or 1.
 pub fn bit_of(word: u64, a: usize) -> u64
@@ -27,7 +28,7 @@ pub fn ones(word: u64) -> u32
     u64::count_ones(word)
 }
 
-// The first set bit of a word that has one.
+// A set bit of a word that has one; which of them makes no difference to a caller.
 pub fn first_bit(word: u64) -> usize
     requires { ⌜ 0 < word ⌝ }
     ensures { λ r. ⌜ (r < 64) × (bit word r ≡ 1) ⌝ }

@@ -19,8 +19,9 @@ use Rattle.derivation.specs.Chart.{cells, items, eventFirings, pairFirings, cel
 use Rattle.derivation.proofs.Counts.{known-one, known-more}
 use Rattle.derivation.proofs.Cells.{known-high}
 use Rattle.derivation.proofs.Columns.{sum-cells}
-use Rattle.kernel.specs.Fire.{hit, conclusions, leafConclusions}
-use Rattle.columns.specs.Fill.{rd, inChart, cellConclusions, Columns, onesTo}
+use Rattle.kernel.specs.Conclude.{hit, conclusions, leafConclusions}
+use Rattle.columns.specs.Fill.{Columns, onesTo}
+use Rattle.columns.specs.NewColumn.{rd, inChart, cellConclusions}
 
 module _ (g : Grammar) (w c₀ c : List ℕ) (m : ℕ) (whole : Columns g w c₀ c (length w) m) where
   Shown : ℕ → ℕ → Type 0

@@ -19,8 +19,10 @@ use Rattle.derivation.proofs.Counts.{of-known}
 use Rattle.derivation.proofs.Numbering.{tells-only}
 use Rattle.derivation.proofs.Flag.{tells-flagged, admitted-flagged, flagged-admitted}
 use Rattle.layout.specs.Layout.{decode}
-use Rattle.image.specs.Refusal.{First, Exactly, demand}
-use Rattle.image.specs.Image.{recordRows, eventRows, Accepted}
+use Rattle.image.specs.Refusal.{First}
+use Rattle.image.specs.Exactly.{Exactly, demand}
+use Rattle.image.specs.Image.{recordRows, eventRows}
+use Rattle.image.specs.Accepted.{Accepted}
 use Rattle.image.proofs.Refusals.{answered-exactly, first-only, past-zero, pass, none}
 use Rattle.image.proofs.Images.{record-holding, accepted-back}
 use Rattle.image.proofs.Flags.{rows-flagged, names-flagged}

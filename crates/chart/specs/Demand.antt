@@ -1,4 +1,4 @@
--- Demand 2, of what `judge` answers and leaves: it answers exactly where image, record and chart pass, and then the chart holds a finding exactly where
+-- Shown: Demand 2, of what `judge` answers and leaves: it answers exactly where image, record and chart pass, and then the chart holds a finding exactly where
 -- the rules derive it, and the verdict is yes exactly where the record is admitted.
 -- Assumes nothing.
 use mathlib.Core.Path.{_≡_}
@@ -11,8 +11,9 @@ use Rattle.derivation.specs.Tree.{Derivable}
 use Rattle.derivation.specs.Reading.{Admitted}
 use Rattle.derivation.specs.Chart.{cellAt, cells}
 use Rattle.layout.specs.Layout.{decode}
-use Rattle.image.specs.Refusal.{Exactly}
-use Rattle.image.specs.Image.{mostEvents, Accepted}
+use Rattle.image.specs.Exactly.{Exactly}
+use Rattle.image.specs.Image.{mostEvents}
+use Rattle.image.specs.Accepted.{Accepted}
 use Rattle.chart.specs.declared.Judged.{Judged}
 
 -- an accepted grammar, a record that is not too long, and room enough

@@ -1,4 +1,4 @@
--- What `judge` answers and what it leaves in the lent chart, for any image b, any events w and any chart.
+-- Promised: what `judge` answers and what it leaves in the lent chart, for any image b, any events w and any chart.
 -- Assumes nothing.
 use mathlib.Core.Path.{_≡_}
 use mathlib.Core.Logic.{_≢_}

@@ -16,8 +16,10 @@ use Rattle.derivation.specs.Grammar.{Grammar, pairCount, pairRule}
 use Rattle.derivation.specs.Chart.{cellsBefore, cellAt, eventFirings, pairFirings, cellFirings, columnFirings}
 use Rattle.derivation.proofs.Columns.{before-mono, cells-column, cells-more}
 use Rattle.kernel.specs.declared.Fired.{Fired}
-use Rattle.kernel.specs.Fire.{conclusions, leafConclusions, LeafFired}
-use Rattle.columns.specs.Fill.{rd, inChart, cellConclusions, CellIs, CellFilled, Column, ColumnFilled, Columns, onesTo}
+use Rattle.kernel.specs.Fire.{LeafFired}
+use Rattle.kernel.specs.Conclude.{conclusions, leafConclusions}
+use Rattle.columns.specs.Fill.{CellIs, CellFilled, Columns, onesTo}
+use Rattle.columns.specs.NewColumn.{rd, inChart, cellConclusions, Column, ColumnFilled}
 
 -- ---- one word more
 pub ones-more : (c : List ℕ) (n : ℕ) → onesTo c (n + 1) ≡ onesTo c n + sum 64 (bit (getD c n 0))

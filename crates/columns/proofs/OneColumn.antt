@@ -18,8 +18,9 @@ use Rattle.derivation.specs.Grammar.{Grammar, leafCount, pairCount, eventRule, 
 use Rattle.derivation.specs.Sound.{Sound}
 use Rattle.derivation.specs.Chart.{cellsBefore, cellAt, eventFirings, pairFirings, cellFirings, columnFirings}
 use Rattle.derivation.proofs.Sound.{leaf-fits, pair-fits-at}
-use Rattle.kernel.specs.Fire.{hit, hits, conclusions, leafConclusions}
-use Rattle.columns.specs.Fill.{rd, inChart, cellConclusions, Column, ColumnFilled}
+use Rattle.kernel.specs.Fire.{hits}
+use Rattle.kernel.specs.Conclude.{hit, conclusions, leafConclusions}
+use Rattle.columns.specs.NewColumn.{rd, inChart, cellConclusions, Column, ColumnFilled}
 use Rattle.columns.proofs.Fills.{conclusions-stay, firings-stay}
 
 -- ---- two columns whose cells conclude the same where the cells behind them are the same

@@ -22,11 +22,13 @@ use Rattle.derivation.specs.Grammar.{Grammar}
 use Rattle.derivation.specs.Chart.{cellsBefore, cellAt, eventFirings, pairFirings, cellFirings, columnFirings}
 use Rattle.derivation.proofs.Columns.{before-mono}
 use Rattle.kernel.specs.declared.Fired.{Fired}
-use Rattle.kernel.specs.Fire.{hit, hits, conclusions, leafConclusions, Concluded, LeafFired}
+use Rattle.kernel.specs.Fire.{hits, Concluded, LeafFired}
+use Rattle.kernel.specs.Conclude.{hit, conclusions, leafConclusions}
 use Rattle.kernel.specs.Apply.{Ready}
 use Rattle.kernel.proofs.Pairs.{none-right}
 use Rattle.kernel.proofs.Readies.{ready-part}
-use Rattle.columns.specs.Fill.{rd, inChart, cellConclusions, Standing, Pushed, ColumnFilled}
+use Rattle.columns.specs.Fill.{Standing, Pushed}
+use Rattle.columns.specs.NewColumn.{rd, inChart, cellConclusions, ColumnFilled}
 
 -- ---- sums
 first-between : (p k : ℕ) (f : ℕ → ℕ) → p + 1 < k → between p k f ≡ f (p + 1) + between (p + 1) k f

@@ -22,8 +22,10 @@ use Rattle.marks.specs.Mark.{meetings}
 use Rattle.marks.specs.Shown.{Filled, Lefts, Rights, Shown, CellMarked}
 use Rattle.marks.proofs.Shows.{met-between, shown-step, shown-empty}
 use Rattle.kernel.specs.declared.Fired.{Fired}
-use Rattle.kernel.specs.Fire.{hit, hits, conclusions, met, Met, LeafFired}
-use Rattle.columns.specs.Fill.{rd, inChart, cellConclusions, CellIs, ColumnFilled}
+use Rattle.kernel.specs.Fire.{hits, met, Met, LeafFired}
+use Rattle.kernel.specs.Conclude.{hit, conclusions}
+use Rattle.columns.specs.Fill.{CellIs}
+use Rattle.columns.specs.NewColumn.{rd, inChart, cellConclusions, ColumnFilled}
 
 -- a cell that is stored changes no other
 pub shown-stored : (c t v u x : List ℕ) (i k at w : ℕ) → i < k → at ≡ cellAt i k → at < length c → CellMarked t v u x i k w

@@ -1,4 +1,4 @@
--- The filler in its own terms: 01's two rules applied to the words of the chart as they stand. No derivation is mentioned here;
+-- Inside: the filler in its own terms: 01's two rules applied to the words of the chart as they stand. No derivation is mentioned here;
 -- `proofs/Bridge` shows that words filled like this are the chart of the definitions.
 -- Assumes nothing.
 use mathlib.Core.Path.{_≡_}
@@ -13,21 +13,10 @@ use Rattle.bits.specs.Bit.{bit}
 use Rattle.bits.specs.Frame.{Framed}
 use Rattle.derivation.specs.Grammar.{Grammar}
 use Rattle.derivation.specs.Chart.{cellAt, cells, Findings, cellFirings, columnFirings}
-use Rattle.kernel.specs.Fire.{hits, conclusions, leafConclusions}
+use Rattle.kernel.specs.Fire.{hits}
+use Rattle.kernel.specs.Conclude.{conclusions}
 use Rattle.kernel.specs.declared.Fired.{Fired}
-
--- the word of cell (i, k)
-abbrev pub rd : List ℕ → ℕ → ℕ → ℕ
-rd c i k = getD c (cellAt i k) 0
-
--- whether it holds A
-abbrev pub inChart : List ℕ → Findings
-inChart c i k A = bit (rd c i k) A
-
--- ---- a cell of more than one event
--- of the pairs of a rule and a split j, i < j < k, that have both premises in the words of (i, j) and (j, k), how many conclude A
-unfoldable pub cellConclusions : Grammar → List ℕ → (i k A : ℕ) → ℕ
-cellConclusions g c i k A = between i k (λ j. conclusions g (rd c i j) (rd c j k) A)
+use Rattle.columns.specs.NewColumn.{rd, inChart, cellConclusions, Column}
 
 -- f is the word of cell (i, k), bit A of it one exactly where some rule and split conclude A, and its firings
 pub record CellIs (g : Grammar) (c : List ℕ) (i k : ℕ) (f : Fired) : Type 0 where
@@ -50,18 +39,6 @@ pub record Pushed (g : Grammar) (j k : ℕ) (before after : List ℕ) (m n : ℕ
   pub frame : Framed before after (cellAt 0 k) m
   pub cell : (i : ℕ) → i < m → (A : ℕ) → bit (rd after i k) A ≡ max (bit (rd before i k) A) (min 1 (conclusions g (rd before i j) (rd before j k) A))
   pub counted : n ≡ sum m (λ i. hits g (rd before i j) (rd before j k))
-
--- ---- columns: column q is cells (0, q + 1) to (q, q + 1)
--- the cell of one event comes from the event rules, the others from the rest of the chart
-pub record Column (g : Grammar) (e : ℕ) (c : List ℕ) (q : ℕ) : Type 0 where
-  pub leaf : (A : ℕ) → bit (rd c q (q + 1)) A ≡ min 1 (leafConclusions g e A)
-  pub inner : (i : ℕ) → i < q → (A : ℕ) → bit (rd c i (q + 1)) A ≡ min 1 (cellConclusions g c i (q + 1) A)
-
--- column q is worked out from the older columns' words as they stand, n its firings: no other word changed
-pub record ColumnFilled (g : Grammar) (e : ℕ) (before after : List ℕ) (q n : ℕ) : Type 0 where
-  pub column : Column g e after q
-  pub counted : n ≡ columnFirings g e (inChart after) q
-  pub frame : Framed before after (cellAt 0 (q + 1)) (q + 1)
 
 -- the first n columns filled, m their firings
 pub record Columns (g : Grammar) (w before after : List ℕ) (n m : ℕ) : Type 0 where

@@ -10,7 +10,8 @@ use native.Mathlib.Decide.{ℕ-discrete}
 use native.Mathlib.Omega.{arith}
 use lib.ListN.{length}
 use Rattle.bits.specs.Truth.{All}
-use Rattle.bits.specs.Bit.{bit, Has, Within, put}
+use Rattle.bits.specs.Bit.{bit}
+use Rattle.bits.specs.Word.{Has, Within, put}
 use Rattle.bits.proofs.Each.{all-as}
 use Rattle.bits.proofs.Decisions.{dec-as}
 use Rattle.bits.proofs.Sets.{none-in, put-has, put-keeps, put-only}

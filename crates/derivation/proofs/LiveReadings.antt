@@ -11,7 +11,8 @@ use Rattle.bits.specs.Truth.{Every}
 use Rattle.derivation.specs.Grammar.{Grammar, leafCount, pairCount, pairRule}
 use Rattle.derivation.specs.Sound.{Sound}
 use Rattle.derivation.specs.Tree.{Tree, leaf, node, Derives}
-use Rattle.derivation.specs.Live.{DerivesSome, Reached, start, left, right, Live, Uses, Stands}
+use Rattle.derivation.specs.Live.{DerivesSome, Reached, start, left, right, Live}
+use Rattle.derivation.specs.Stands.{Uses, Stands}
 use Rattle.derivation.proofs.Around.{moved}
 use Rattle.derivation.proofs.Sound.{pair-fits-at}
 use Rattle.derivation.proofs.Live.{join, joined, derives-upward, tree-in}

@@ -1,4 +1,4 @@
--- Where the chart's cells are, and the items and firings, as sums of 0 and 1 over findings.
+-- Promised: where the chart's cells are, and the items and firings, as sums of 0 and 1 over findings.
 -- Column q is the stretches that end at q + 1: its event is event q + 1.
 -- Assumes nothing.
 use mathlib.Core.List.{List}

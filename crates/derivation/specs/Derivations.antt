@@ -1,4 +1,4 @@
--- Every derivation of [A, i, k] and every reading, the earliest script first, and how many there are.
+-- Promised: every derivation of [A, i, k] and every reading, the earliest script first, and how many there are.
 -- How the lists are made need not be believed: they are the only ones with `NumbersDerivations g w A i k` and `NumbersReadings g w`
 -- (`derivations-numbered`, `readings-numbered`, `numbers-only`), and `known` is the only one that is `Telling` (`known-telling`, `telling-only`).
 -- Assumes nothing.

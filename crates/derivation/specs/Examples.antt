@@ -1,4 +1,4 @@
--- CHAIN and STOP, and the rows of 01's table of examples that are marked P: what each says of the definitions; and two rows of a quiet shift.
+-- Shown: CHAIN and STOP, and the rows of 01's table of examples that are marked P: what each says of the definitions; and two rows of a quiet shift.
 -- Assumes nothing.
 use mathlib.Core.Path.{_≡_}
 use mathlib.Core.Bool.{Bool, true, false}

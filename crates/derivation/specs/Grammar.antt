@@ -1,4 +1,4 @@
--- A grammar: its symbols 0 to N - 1, of which 0 is the start, its event rules and its pair rules, by number, and its flag.
+-- Promised: a grammar: its symbols 0 to N - 1, of which 0 is the start, its event rules and its pair rules, by number, and its flag.
 -- Assumes nothing.
 use Prim.Native.Nat.{ℕ, _+_}
 use mathlib.Core.List.{List, _++_, map}

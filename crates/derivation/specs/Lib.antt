@@ -4,6 +4,7 @@ pub mod Sound
 pub mod Tree
 pub mod Reading
 pub mod Live
+pub mod Stands
 pub mod Numbering
 pub mod Derivations
 pub mod Chart

@@ -1,4 +1,4 @@
--- Live and dead symbols: a live one derives some list of one or more events by the rules, and can be reached from symbol 0 through them. The flag is no
+-- Promised: live and dead symbols: a live one derives some list of one or more events by the rules, and can be reached from symbol 0 through them. The flag is no
 -- rule, and has no say in it.
 -- Assumes nothing.
 use mathlib.Core.Path.{_≡_}
@@ -29,16 +29,3 @@ pub record Live (g : Grammar) (A : ℕ) : Type 0 where
 -- A derives no such list, or cannot be reached
 abbrev pub Dead : Grammar → ℕ → Type 0
 Dead g A = (DerivesSome g A → ⊥) ⊎ (Reached g A → ⊥)
-
--- ---- what it comes to: that every symbol is of use (`LiveReadings`)
--- A is the symbol of a node of the tree
-abbrev pub Uses : Grammar → ℕ → Tree → Type 0
-Uses g A (leaf r p) = eventRule g r .symbol ≡ A
-Uses g A (node r j t u) = (pairRule g (r - leafCount g) .symbol ≡ A) ⊎ (Uses g A t ⊎ Uses g A u)
-
--- A stands in a reading of some record
-pub record Stands (g : Grammar) (A : ℕ) : Type 0 where
-  pub events : List ℕ
-  pub tree : Tree
-  pub reads : Reads g events (derived tree)
-  pub uses : Uses g A tree

@@ -1,4 +1,4 @@
--- What every list of readings or of derivations must be, and every answer to "is it derivable": said of demand 2's trees alone, with no
+-- Promised: what every list of readings or of derivations must be, and every answer to "is it derivable": said of demand 2's trees alone, with no
 -- list and no chart made. `Derivations` has such lists, and `proofs/Numbering` shows that there is one only of each.
 -- Assumes nothing.
 use mathlib.Core.Path.{_≡_}

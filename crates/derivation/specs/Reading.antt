@@ -1,4 +1,4 @@
--- What a reading of a record is, and its script.
+-- Promised: what a reading of a record is, and its script.
 -- Assumes nothing.
 use mathlib.Core.Path.{_≡_}
 use mathlib.Core.List.{List, []}

@@ -1,4 +1,4 @@
--- What is asked of a grammar: its counts and its flag in range, every symbol of its rules below N, and each rule above its predecessor of the same
+-- Promised: what is asked of a grammar: its counts and its flag in range, every symbol of its rules below N, and each rule above its predecessor of the same
 -- kind. A grammar of which all this holds is sound.
 -- Assumes nothing.
 use Prim.Native.Nat.{ℕ, _-_, _≤_, _<_, max}

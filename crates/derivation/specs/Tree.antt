@@ -1,4 +1,4 @@
--- What a grammar derives by its rules: trees of rule uses, which of them are derivations, and their scripts.
+-- Promised: what a grammar derives by its rules: trees of rule uses, which of them are derivations, and their scripts.
 -- A record of events is a list w; the stretch (i, k) of it is events i + 1 to k.
 -- Assumes nothing.
 use mathlib.Core.Path.{_≡_}

@@ -6,7 +6,7 @@ ghost use Rattle.bits.specs.Truth.{Decides};
 ghost use Rattle.derivation.specs.Tree.{LeafOk, NodeOk, scriptWords, Spells};
 ghost use Rattle.derivation.specs.Reading.{IsReading};
 ghost use Rattle.layout.specs.Layout.{decode};
-ghost use Rattle.image.specs.Image.{Accepted};
+ghost use Rattle.image.specs.Accepted.{Accepted};
 
 // Whether rule r, with p in the split's place, is a derivation of the symbol over event i+1 alone.
 fn is_leaf(image: &[u8], events: &[u16], symbol: usize, i: usize, r: usize, p: usize) -> bool

@@ -15,7 +15,8 @@ use Rattle.derivation.specs.Sound.{mostSymbols, mostLeaves, mostPairs, InRange,
 use Rattle.derivation.specs.Live.{Live}
 use Rattle.derivation.proofs.Orders.{none-before}
 use Rattle.derivation.proofs.LiveDecided.{live?}
-use Rattle.image.specs.Refusal.{Row, _unless_, First, demand}
+use Rattle.image.specs.Refusal.{Row, _unless_, First}
+use Rattle.image.specs.Exactly.{demand}
 use Rattle.layout.specs.Layout.{headerBytes, byteAt, versionIn, symbolsIn, leavesIn, pairsIn, quietIn, rulesFrom, decode}
 use Rattle.image.specs.Image.{mostEvents, Marked, byteRows, ruleRows, imageRows, eventRows, recordRows}
 use Rattle.image.proofs.Refusals.{none, fail, pass}

@@ -7,7 +7,8 @@ use mathlib.Core.Path.{_≡_, refl}
 use mathlib.Core.List.{List, [], _∷_}
 use Prim.Native.Nat.{ℕ}
 use Rattle.bits.specs.Truth.{same}
-use Rattle.bits.specs.Bit.{bit, put}
+use Rattle.bits.specs.Bit.{bit}
+use Rattle.bits.specs.Word.{put}
 use Rattle.bits.proofs.Each.{all-both}
 use Rattle.bits.proofs.Decisions.{dec-as, dec-implies, dec-either, dec-every}
 use Rattle.derivation.specs.Sound.{mostSymbols, mostPairs}

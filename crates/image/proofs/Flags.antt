@@ -7,7 +7,8 @@ use Prim.Native.Nat.{ℕ}
 use native.Mathlib.Omega.{arith}
 use Rattle.layout.specs.Layout.{decode}
 use Rattle.image.specs.Refusal.{Row, First}
-use Rattle.image.specs.Image.{imageRows, Names, Accepted}
+use Rattle.image.specs.Image.{imageRows, Names}
+use Rattle.image.specs.Accepted.{Accepted}
 use Rattle.image.proofs.Refusals.{Lacks, past-zero, holding-passed, never}
 use Rattle.image.proofs.Images.{accepted-back}
 use Rattle.image.proofs.Named.{names-none}

@@ -14,9 +14,11 @@ use Rattle.derivation.specs.Sound.{SymbolsFit, Rises, Sound}
 use Rattle.derivation.specs.Live.{Live, Dead}
 use Rattle.derivation.proofs.LiveDecided.{dead-symbol, not-all-live}
 use Rattle.image.specs.declared.Tested.{Tested}
-use Rattle.image.specs.Refusal.{Row, _unless_, FirstOf, First, demand, AllHold}
+use Rattle.image.specs.Refusal.{Row, _unless_, FirstOf, First}
+use Rattle.image.specs.Exactly.{demand, AllHold}
 use Rattle.layout.specs.Layout.{decode, Whole}
-use Rattle.image.specs.Image.{mostEvents, byteRows, ruleRows, eventRows, imageRows, recordRows, Marked, Versioned, Ranged, Names, Gives, GivesCounts, TestedIs, Accepted, longestImage}
+use Rattle.image.specs.Image.{mostEvents, byteRows, ruleRows, eventRows, imageRows, recordRows, Marked, Versioned, Ranged, Names, Gives, GivesCounts, TestedIs}
+use Rattle.image.specs.Accepted.{Accepted, longestImage}
 use Rattle.image.proofs.Refusals.{Lacks, Positive, none, fail, pass, first-only, first-zero, all-hold, first-hit, first-pass, past-zero, reached, passed, never}
 use Rattle.image.proofs.Named.{names-same, names-none, names-before}
 use Rattle.layout.proofs.Decoded.{leaf-count, pair-count, symbol-count, quiet-flag, rules-from-low}

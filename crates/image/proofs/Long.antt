@@ -13,7 +13,8 @@ use Rattle.image.specs.Refusal.{Row, _unless_, FirstOf, First}
 use Rattle.bits.specs.Truth.{same}
 use Rattle.layout.specs.Layout.{headerBytes, byteAt, wordAt, quietIn, decode, Sized}
 use Rattle.layout.proofs.Decoded.{rules-from-low}
-use Rattle.image.specs.Image.{Marked, Versioned, Ranged, byteRows, ruleRows, imageRows, Names, TestedIs, longestImage}
+use Rattle.image.specs.Image.{Marked, Versioned, Ranged, byteRows, ruleRows, imageRows, Names, TestedIs}
+use Rattle.image.specs.Accepted.{longestImage}
 use Rattle.image.proofs.Refusals.{alone}
 use Rattle.image.proofs.Named.{names-none}
 use Rattle.image.proofs.Images.{bytes-other, tested-accepted, accepted-short}

@@ -1,4 +1,4 @@
--- What is asked of a grammar image and of a record, as the rows of 01's refusal table, and what the two tests answer.
+-- Promised: what is asked of a grammar image and of a record, as the rows of 01's refusal table, and what the two tests answer.
 -- Assumes nothing.
 use Prim.Native.Nat.{ℕ, _+_, _*_, _≤_}
 use mathlib.Core.Path.{_≡_}
@@ -68,11 +68,6 @@ pub record Names (g : Grammar) (number rule : ℕ) : Type 0 where
   pub low : number ≡ 7 → FirstFault (ruleCount g) (Rises g) rule
   pub other : number ≢ 6 → number ≢ 7 → rule ≡ 0
 
--- what is answered by rows over the rules of g: the first number that applies, and the rule that it names
-pub record RefusalIs (rows : List Row) (g : Grammar) (r : Refusal) : Type 0 where
-  pub number : First rows (r .number)
-  pub rule : Names g (r .number) (r .rule)
-
 -- ---- what a test by such rows answers: the first that applies with zeros, but for the rule, or 0 with N, L and B
 pub record Gives (t : Tested) (N L B : ℕ) : Type 0 where
   pub symbols : t .symbols ≡ N
@@ -88,15 +83,3 @@ pub record TestedIs (rows : List Row) (g : Grammar) (t : Tested) : Type 0 where
   pub rule : Names g (t .number) (t .rule)
   pub accepted : t .number ≡ 0 → GivesCounts t g
   pub refused : t .number ≢ 0 → Gives t 0 0 0
-
--- ---- what 1 to 7 and 15 let pass, neither more nor less
-pub record Accepted (b : List ℕ) : Type 0 where
-  pub marked : Marked b
-  pub version : Versioned b
-  pub whole : Whole b
-  pub sound : Sound (decode b)
-  pub live : Every (decode b .symbols) (Live (decode b))
-
--- the longest image that is accepted, one of version 2
-abbrev pub longestImage : ℕ
-longestImage = headerBytes + 1 + 3 * (mostLeaves + mostPairs)

@@ -1,2 +1,5 @@
 pub mod Refusal
+pub mod Exactly
 pub mod Image
+pub mod Refuse
+pub mod Accepted

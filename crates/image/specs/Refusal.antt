@@ -1,4 +1,4 @@
--- Refusals: a table of demands in order, each with its number. What is given is the number of the first demand that fails, and 0 where none does.
+-- Promised: refusals: a table of demands in order, each with its number. What is given is the number of the first demand that fails, and 0 where none does.
 -- Assumes nothing.
 use Prim.Native.Nat.{ℕ}
 use mathlib.Core.Path.{_≡_}
@@ -19,19 +19,3 @@ FirstOf ((k unless P) ∷ rows) n = ((P → ⊥) × (n ≡ k)) ⊎ (P × FirstOf
 -- the same as a record, whose parameters antt infers
 pub record First (rows : List Row) (n : ℕ) : Type 0 where
   pub is : FirstOf rows n
-
--- ---- P exactly when Q
-pub record Exactly (P Q : Type 0) : Type 0 where
-  pub only : P → Q
-  pub whenever : Q → P
-
--- the two things that a row has
-abbrev pub numberOf : Row → ℕ
-numberOf (k unless P) = k
-
-abbrev pub demand : Row → Type 0
-demand (k unless P) = P
-
--- every demand of the table holds
-abbrev pub AllHold : List Row → Type 0
-AllHold = All demand

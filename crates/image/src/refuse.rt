@@ -6,7 +6,8 @@ ghost use lib.ListN.{length};
 ghost use Rattle.bits.specs.Truth.{Decides};
 ghost use Rattle.image.specs.Refusal.{First};
 ghost use Rattle.layout.specs.Layout.{headerBytes, decode, Sized, Whole};
-ghost use Rattle.image.specs.Image.{Marked, Versioned, Ranged, byteRows, ruleRows, RefusalIs};
+ghost use Rattle.image.specs.Image.{Marked, Versioned, Ranged, byteRows, ruleRows};
+ghost use Rattle.image.specs.Refuse.{RefusalIs};
 
 const MOST_SYMBOLS: usize = 64;
 

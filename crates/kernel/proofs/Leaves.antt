@@ -9,7 +9,8 @@ use native.Mathlib.Decide.{ℕ-discrete}
 use native.Mathlib.Omega.{arith}
 use Rattle.bits.specs.Truth.{same}
 use Rattle.bits.specs.Sum.{sum}
-use Rattle.bits.specs.Bit.{bit, put}
+use Rattle.bits.specs.Bit.{bit}
+use Rattle.bits.specs.Word.{put}
 use Rattle.bits.proofs.Truths.{same-lt, same-other}
 use Rattle.bits.proofs.Sums.{sum-more, sum-zero, sum-le, product-le, some-add}
 use Rattle.bits.proofs.Sets.{put-has, put-keeps}
@@ -21,7 +22,8 @@ use Rattle.derivation.specs.Sound.{Sound}
 use Rattle.derivation.proofs.Sound.{leaf-symbol, leaf-fits}
 use Rattle.derivation.specs.Chart.{eventFirings}
 use Rattle.kernel.specs.declared.Fired.{Fired}
-use Rattle.kernel.specs.Fire.{leafConclusions, Noted, LeafFired, hears, Heard}
+use Rattle.kernel.specs.Fire.{Noted, LeafFired, hears, Heard}
+use Rattle.kernel.specs.Conclude.{leafConclusions}
 
 -- 1 where event rule r turns A into the event e, else 0
 unfoldable pub turns : Grammar → ℕ → ℕ → ℕ → ℕ

@@ -5,13 +5,15 @@ use Prim.Native.Nat.{ℕ, _+_, _*_, _≤_, _<_, max, min}
 use native.Mathlib.Nat.{mul-assoc, mul-zero, zero-mul, add-zero, max-zero, le-of-suc-le-suc}
 use native.Mathlib.Omega.{arith}
 use Rattle.bits.specs.Truth.{same}
-use Rattle.bits.specs.Bit.{bit, meet}
+use Rattle.bits.specs.Bit.{bit}
+use Rattle.bits.specs.Word.{meet}
 use Rattle.bits.proofs.Sums.{sum-cong, sum-zero}
 use Rattle.bits.proofs.Bits.{bit-of-zero, bit-one, meet-lt}
 use Rattle.bits.proofs.Words.{meet-one}
 use Rattle.derivation.specs.Grammar.{Grammar, pairCount, pairRule}
 use Rattle.kernel.specs.declared.Fired.{Fired}
-use Rattle.kernel.specs.Fire.{hit, hits, conclusions, Concluded}
+use Rattle.kernel.specs.Fire.{hits, Concluded}
+use Rattle.kernel.specs.Conclude.{hit, conclusions}
 use Rattle.kernel.specs.Apply.{over}
 use Rattle.kernel.proofs.Visits.{ruleMatches, ruleConclusions, Visit, visit-word, visit-count}
 

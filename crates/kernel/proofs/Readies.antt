@@ -9,7 +9,8 @@ use lib.Bits.{bitOr}
 use lib.ListN.{length, getD, set, length-set}
 use lib.Seq.{getD-set-same, getD-set-other}
 use Rattle.bits.specs.Truth.{same}
-use Rattle.bits.specs.Bit.{bit, Has, Without}
+use Rattle.bits.specs.Bit.{bit}
+use Rattle.bits.specs.Word.{Has, Without}
 use Rattle.bits.proofs.Truths.{same-lt, same-other}
 use Rattle.bits.proofs.Sums.{sum-le, product-le}
 use Rattle.bits.proofs.Bits.{bit-lt, bit-or, bit-of-zero}

@@ -9,7 +9,8 @@ use native.Mathlib.Omega.{arith}
 use lib.Bits.{bitAnd, bitOr}
 use Rattle.bits.specs.Truth.{same}
 use Rattle.bits.specs.Sum.{sum}
-use Rattle.bits.specs.Bit.{bit, meet}
+use Rattle.bits.specs.Bit.{bit}
+use Rattle.bits.specs.Word.{meet}
 use Rattle.bits.proofs.Truths.{same-refl, same-eq, same-other}
 use Rattle.bits.proofs.Sums.{sum-cong, sum-zero, sum-upto}
 use Rattle.bits.proofs.Bits.{bit-lt, bit-and, bit-or, bit-one, bit-of-zero}

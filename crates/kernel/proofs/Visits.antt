@@ -7,7 +7,8 @@ use native.Mathlib.Nat.{add-zero, max-zero}
 use native.Mathlib.Omega.{arith}
 use Rattle.bits.specs.Truth.{same}
 use Rattle.bits.specs.Sum.{sum}
-use Rattle.bits.specs.Bit.{bit, Without}
+use Rattle.bits.specs.Bit.{bit}
+use Rattle.bits.specs.Word.{Without}
 use Rattle.bits.proofs.Sums.{sum-cong, sum-swap, sum-scale, sum-le, sum-at, some-left}
 use Rattle.bits.proofs.Bits.{bit-lt}
 use Rattle.bits.proofs.Visited.{visited, none-visited, all-visited, part-less, one-visited, visited-le}

@@ -1,11 +1,12 @@
--- What the rules of one left symbol add to a cell, by the groups of the regrouped rules.
+-- Inside: what the rules of one left symbol add to a cell, by the groups of the regrouped rules.
 -- Assumes nothing.
 use mathlib.Core.Path.{_≡_}
 use mathlib.Core.List.{List}
 use Prim.Native.Nat.{ℕ, _+_, _*_, min, max}
 use lib.ListN.{length, getD}
 use Rattle.bits.specs.Sum.{sum}
-use Rattle.bits.specs.Bit.{bit, Has, meet}
+use Rattle.bits.specs.Bit.{bit}
+use Rattle.bits.specs.Word.{Has, meet}
 use Rattle.derivation.specs.Grammar.{Grammar, pairCount}
 use Rattle.groups.specs.Group.{byLeft}
 use Rattle.marks.specs.Mark.{meetings}

@@ -1,4 +1,4 @@
--- The rules over words as they stand: which of them match, which symbols they conclude. No derivation is mentioned here.
+-- Inside: the rules over words as they stand: which of them match, which symbols they conclude. No derivation is mentioned here.
 -- A word is a set of symbols: bit A of it is one where it holds A. Marks say at which splits a symbol stands.
 -- Assumes nothing.
 use mathlib.Core.Path.{_≡_}
@@ -11,22 +11,12 @@ use Rattle.bits.specs.Bit.{bit}
 use Rattle.derivation.specs.Grammar.{Grammar, leafCount, pairCount, eventRule, pairRule}
 use Rattle.derivation.specs.Chart.{eventFirings}
 use Rattle.marks.specs.Mark.{meetings}
+use Rattle.kernel.specs.Conclude.{hit, conclusions, leafConclusions}
 use Rattle.kernel.specs.declared.Fired.{Fired}
 
--- 1 where both premises of pair rule b stand in the words u and v, else 0
-unfoldable pub hit : Grammar → (u v b : ℕ) → ℕ
-hit g u v b = bit u (pairRule g b .left) * bit v (pairRule g b .right)
-
--- how many pair rules match over u and v, and how many of them conclude A
+-- how many pair rules match over u and v
 unfoldable pub hits : Grammar → (u v : ℕ) → ℕ
 hits g u v = sum (pairCount g) (hit g u v)
-
-unfoldable pub conclusions : Grammar → (u v A : ℕ) → ℕ
-conclusions g u v A = sum (pairCount g) (λ b. hit g u v b * same (pairRule g b .symbol) A)
-
--- how many event rules turn A into the event e
-unfoldable pub leafConclusions : Grammar → (e A : ℕ) → ℕ
-leafConclusions g e A = sum (leafCount g) (λ r. same (eventRule g r .event) e * same (eventRule g r .symbol) A)
 
 -- what a number of matches of a rule with the own symbol's word S makes of a word and a count
 pub record Noted (matches S : ℕ) (was now : Fired) : Type 0 where

@@ -1,2 +1,3 @@
 pub mod Fire
+pub mod Conclude
 pub mod Apply

@@ -11,7 +11,8 @@ use lib.ListN.{length, getD, length-map, List·getD-eq-default}
 use Rattle.bits.proofs.Truths.{same-eq, same-other, same-lt}
 use Rattle.derivation.specs.Grammar.{EventRule, PairRule, leafCount, pairCount, ruleCount, eventRule, pairRule, ruleSymbol}
 use Rattle.derivation.proofs.Sound.{leaf-symbol, pair-symbol}
-use Rattle.layout.specs.Layout.{headerBytes, byteAt, wordAt, versionIn, quietIn, rulesFrom, symbolsIn, leavesIn, pairsIn, counting, ruleAt, eventRuleAt, pairRuleAt, decode, HasRule, HasPair}
+use Rattle.layout.specs.Layout.{headerBytes, byteAt, wordAt, versionIn, quietIn, rulesFrom, symbolsIn, leavesIn, pairsIn, counting, ruleAt, eventRuleAt, pairRuleAt, decode}
+use Rattle.layout.specs.Present.{HasRule, HasPair}
 
 length-counting : (i n : ℕ) → length (counting i n) ≡ n
 unfolding counting

@@ -1,4 +1,4 @@
--- The bytes of a grammar image, and the grammar that they show, whatever they are.
+-- Promised: the bytes of a grammar image, and the grammar that they show, whatever they are.
 -- Assumes nothing.
 use Prim.Native.Nat.{ℕ, suc, zero, _+_, _*_, _≤_, _<_}
 use mathlib.Core.Path.{_≡_}
@@ -79,16 +79,3 @@ Sized b = length b ≡ rulesFrom b + 3 * (leavesIn b + pairsIn b)
 pub record Whole (b : List ℕ) : Type 0 where
   pub long : headerBytes ≤ length b
   pub sized : Sized b
-
-pub record HasRule (b : List ℕ) (r : ℕ) : Type 0 where
-  pub whole : Whole b
-  pub below : r < ruleCount (decode b)
-
-pub record HasLeaf (b : List ℕ) (r : ℕ) : Type 0 where
-  pub whole : Whole b
-  pub below : r < leafCount (decode b)
-
-pub record HasPair (b : List ℕ) (r : ℕ) : Type 0 where
-  pub whole : Whole b
-  pub from : leafCount (decode b) ≤ r
-  pub below : r < ruleCount (decode b)

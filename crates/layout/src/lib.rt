@@ -3,7 +3,8 @@ ghost use mathlib.Core.Path.{_≡_};
 ghost use Prim.Native.Nat.{_+_, _-_, _<_, _≤_};
 ghost use lib.ListN.{length};
 ghost use Rattle.derivation.specs.Grammar.{leafCount, pairCount, ruleCount, eventRule, pairRule, ruleSymbol};
-ghost use Rattle.layout.specs.Layout.{headerBytes, byteAt, wordAt, versionIn, rulesFrom, ruleAt, decode, HasRule, HasLeaf, HasPair};
+ghost use Rattle.layout.specs.Layout.{headerBytes, byteAt, wordAt, versionIn, rulesFrom, ruleAt, decode};
+ghost use Rattle.layout.specs.Present.{HasRule, HasLeaf, HasPair};
 
 // The header of every version, and the flag that follows it in version 2.
 pub const HEADER_BYTES: usize = 10;

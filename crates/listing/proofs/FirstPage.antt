@@ -19,7 +19,8 @@ use Rattle.derivation.proofs.Lists.{map-at}
 use Rattle.derivation.proofs.Pages.{page-at}
 use Rattle.layout.specs.Layout.{decode}
 use Rattle.image.specs.Refusal.{First}
-use Rattle.image.specs.Image.{mostEvents, imageRows, eventRows, recordRows, Accepted}
+use Rattle.image.specs.Image.{mostEvents, imageRows, eventRows, recordRows}
+use Rattle.image.specs.Accepted.{Accepted}
 use Rattle.image.proofs.Refusals.{none, pass, first-only, past-zero}
 use Rattle.image.proofs.Images.{accepted-back}
 use Rattle.table.specs.Table.{limit, held, tableWords}

@@ -9,13 +9,16 @@ use Prim.Native.Nat.{ℕ, _+_, _≤_, _<_}
 use native.Mathlib.Omega.{arith}
 use lib.ListN.{length}
 use lib.Seq.{getD-take, length-take-le, take-all}
-use Rattle.image.specs.Refusal.{First, AllHold}
-use Rattle.image.specs.Image.{imageRows, longestImage}
+use Rattle.image.specs.Refusal.{First}
+use Rattle.image.specs.Exactly.{AllHold}
+use Rattle.image.specs.Image.{imageRows}
+use Rattle.image.specs.Accepted.{longestImage}
 use Rattle.image.proofs.Refusals.{all-hold, first-hit, alone, behind}
 use Rattle.image.proofs.Images.{holding, accepted-short}
 use Rattle.image.proofs.Long.{begins-alike, long-names}
 use Rattle.bits.proofs.Truths.{lt-or-ge}
-use Rattle.listing.specs.Listing.{mostEventBytes, fileRows, ListingIs, OutputIs, grammarStart, eventsStart}
+use Rattle.listing.specs.Listing.{mostEventBytes, fileRows, ListingIs, OutputIs}
+use Rattle.listing.specs.Start.{grammarStart, eventsStart}
 use Rattle.listing.proofs.Refuses.{passed}
 
 module _ (b e o : List ℕ) where

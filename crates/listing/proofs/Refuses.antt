@@ -7,8 +7,10 @@ use native.Mathlib.Omega.{arith}
 use lib.ListN.{length}
 use Rattle.bits.proofs.Each.{all-front, all-back}
 use Rattle.layout.specs.Layout.{decode}
-use Rattle.image.specs.Refusal.{First, demand}
-use Rattle.image.specs.Image.{mostEvents, imageRows, Accepted}
+use Rattle.image.specs.Refusal.{First}
+use Rattle.image.specs.Exactly.{demand}
+use Rattle.image.specs.Image.{mostEvents, imageRows}
+use Rattle.image.specs.Accepted.{Accepted}
 use Rattle.image.proofs.Refusals.{all-hold}
 use Rattle.image.proofs.Images.{holding}
 use Rattle.table.specs.Table.{tableWords}

@@ -1,4 +1,4 @@
--- What the program writes for the bytes b of a grammar file and the bytes e of an event file, whatever they are, and where one cannot be read.
+-- Promised: what the program writes for the bytes b of a grammar file and the bytes e of an event file, whatever they are, and where one cannot be read.
 -- Assumes nothing.
 use mathlib.Core.Path.{_≡_}
 use mathlib.Core.Logic.{_≢_}
@@ -12,7 +12,7 @@ use Rattle.derivation.specs.Tree.{scriptWords}
 use Rattle.derivation.specs.Derivations.{scripts}
 use Rattle.layout.specs.Layout.{decode}
 use Rattle.image.specs.Refusal.{Row, _unless_, First}
-use Rattle.image.specs.Image.{mostEvents, longestImage, imageRows, Names}
+use Rattle.image.specs.Image.{mostEvents, imageRows, Names}
 use Rattle.table.specs.Table.{limit, held, tableWords}
 use Rattle.readings.specs.Count.{howMany}
 use Rattle.text.specs.Text.{text, line, words}
@@ -96,10 +96,3 @@ mostBytes = 64 + mostListed * lineBytes
 pub record Written (grammarRead : Bool) (b : List ℕ) (eventsRead : Bool) (e before : List ℕ) (r : ℕ) (after : List ℕ) : Type 0 where
   pub short : length before < mostBytes → (r ≡ 0) × (after ≡ before)
   pub enough : mostBytes ≤ length before → (r ≤ length after) × OutputIs grammarRead b eventsRead e (take r after)
-
--- ---- so much of each file is read: one byte more than the longest that is not refused for its length
-abbrev pub grammarStart : List ℕ → List ℕ
-grammarStart b = take (longestImage + 1) b
-
-abbrev pub eventsStart : List ℕ → List ℕ
-eventsStart e = take (mostEventBytes + 1) e

@@ -8,7 +8,8 @@ ghost use mathlib.Core.List.{[], _∷_, _++_};
 ghost use Prim.Native.Nat.{ℕ, _+_, _≤_, _<_};
 ghost use lib.ListN.{length, take};
 ghost use Rattle.layout.specs.Layout.{decode};
-ghost use Rattle.image.specs.Image.{Accepted, mostEvents};
+ghost use Rattle.image.specs.Image.{mostEvents};
+ghost use Rattle.image.specs.Accepted.{Accepted};
 ghost use Rattle.table.specs.Table.{tableWords};
 ghost use Rattle.listing.specs.Listing.{mostWords, mostBytes, refusedWords, refusedLine, orMore, heading, listing, ListingIs, noFileLine, OutputIs, Written};
 

@@ -1,7 +1,7 @@
 // The refusals of the program, in its order.
 use image::Refusal;
 ghost use Rattle.layout.specs.Layout.{decode};
-ghost use Rattle.image.specs.Image.{RefusalIs};
+ghost use Rattle.image.specs.Refuse.{RefusalIs};
 ghost use Rattle.listing.specs.Listing.{programRows};
 
 // The refusals of the image, and then 8, 14 and 10, or 0.

@@ -7,7 +7,8 @@ use mathlib.Core.Path.{_≡_, sym, _∙_, subst, subst⁻¹}
 use mathlib.Core.Logic.{⊎-elim}
 use borrow.Author.Count.{below-none, below-more}
 use Rattle.bits.specs.Truth.{Every}
-use Rattle.bits.specs.Bit.{bit, Has, Within, put}
+use Rattle.bits.specs.Bit.{bit}
+use Rattle.bits.specs.Word.{Has, Within, put}
 use Rattle.bits.proofs.Bits.{bit-lt}
 use Rattle.bits.proofs.Sets.{none-in, put-has, put-keeps, put-only, put-grows}
 use Rattle.derivation.specs.Grammar.{Grammar, leafCount, pairCount, ruleCount, eventRule, pairRule, ruleSymbol}

@@ -1,9 +1,9 @@
--- What is sought, and what the parts of a search promise to each other. A set of symbols is a word.
+-- Inside: what is sought, and what the parts of a search promise to each other. A set of symbols is a word.
 -- Assumes nothing.
 use Prim.Native.Nat.{ℕ, _-_, _≤_}
 use mathlib.Core.Path.{_≡_}
 use Rattle.bits.specs.Truth.{Every}
-use Rattle.bits.specs.Bit.{Has, Within}
+use Rattle.bits.specs.Word.{Has, Within}
 use Rattle.derivation.specs.Grammar.{Grammar, leafCount, eventRule, pairRule}
 use Rattle.derivation.specs.Live.{DerivesSome, Reached}
 use Rattle.live.specs.declared.Sought.{Sought}

@@ -2,11 +2,12 @@
 // search for a set of symbols, a word, which goes round the pair rules until a round adds nothing.
 ghost use Prim.Native.Nat.{_≤_};
 ghost use Rattle.bits.specs.Truth.{Every, Decides};
-ghost use Rattle.bits.specs.Bit.{Has};
+ghost use Rattle.bits.specs.Word.{Has};
 ghost use Rattle.derivation.specs.Grammar.{ruleCount};
 ghost use Rattle.derivation.specs.Sound.{Sound};
 ghost use Rattle.derivation.specs.Live.{Live};
-ghost use Rattle.layout.specs.Layout.{decode, Whole, HasPair};
+ghost use Rattle.layout.specs.Layout.{decode, Whole};
+ghost use Rattle.layout.specs.Present.{HasPair};
 ghost use Rattle.live.specs.declared.Sought.the-variants.{Deriving, Reachable};
 ghost use Rattle.live.specs.Search.{Meets, Stays, Starts, Grown, Exactly};
 

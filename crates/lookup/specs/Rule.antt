@@ -1,4 +1,4 @@
--- A rule as it is read off an accepted image: what it says, with its symbols in range.
+-- Inside: a rule as it is read off an accepted image: what it says, with its symbols in range.
 -- Assumes nothing.
 use mathlib.Core.Path.{_≡_}
 use Prim.Native.Nat.{ℕ, _≤_, _<_}

@@ -4,7 +4,7 @@ ghost use Prim.Native.Nat.{_<_};
 ghost use Rattle.bits.specs.Truth.{Decides};
 ghost use Rattle.derivation.specs.Grammar.{leafCount, pairCount};
 ghost use Rattle.layout.specs.Layout.{decode};
-ghost use Rattle.image.specs.Image.{Accepted};
+ghost use Rattle.image.specs.Accepted.{Accepted};
 ghost use Rattle.lookup.specs.Rule.{LeafIs, Turns, PairIs};
 
 pub struct Leaf {

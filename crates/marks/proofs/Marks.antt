@@ -13,7 +13,8 @@ use lib.ListN.{length, getD, set, replicate, length-set}
 use lib.Seq.{getD-set-same, getD-set-other}
 use Rattle.bits.specs.Truth.{same}
 use Rattle.bits.specs.Sum.{sum}
-use Rattle.bits.specs.Bit.{bit, Without}
+use Rattle.bits.specs.Bit.{bit}
+use Rattle.bits.specs.Word.{Without}
 use Rattle.bits.proofs.Truths.{same-refl, same-eq, same-other, same-lt}
 use Rattle.bits.proofs.Sums.{sum-cong, sum-zero, sum-split, product-le}
 use Rattle.bits.proofs.Bits.{bit-lt, bit-or, bit-and, bit-one, bit-of-zero}

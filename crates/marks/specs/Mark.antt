@@ -1,4 +1,4 @@
--- Marks: at which splits a symbol stands in the left parts of a stretch, by its start, and at which in the right parts, by the column in work.
+-- Inside: marks: at which splits a symbol stands in the left parts of a stretch, by its start, and at which in the right parts, by the column in work.
 -- Where they are few, nothing else needs to be visited.
 -- There is a block of 131 words for each start, and one for the column. Symbol a has two, for the splits below 64 and for those from 64 on, a split being a bit; then come two for the splits
 -- at which any symbol stands, and the set of all symbols that stand anywhere.

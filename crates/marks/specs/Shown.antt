@@ -1,4 +1,4 @@
--- What the marks show while cells are filled, column after column, each from its last cell down: when (i, k) is filled, the columns before k, and
+-- Inside: what the marks show while cells are filled, column after column, each from its last cell down: when (i, k) is filled, the columns before k, and
 -- of column k the cells from i on. P x j a tells, 1 or 0, whether symbol a stands over x to j, for the first m symbols.
 -- Short records are filled without marks, and nothing is said of them then.
 -- Assumes nothing.

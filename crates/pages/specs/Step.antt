@@ -1,4 +1,4 @@
--- From one derivation to the next: in the words of its script, and in its root's rule and split. "Next" is by number (`Derivations`).
+-- Inside: from one derivation to the next: in the words of its script, and in its root's rule and split. "Next" is by number (`Derivations`).
 -- Assumes nothing.
 use mathlib.Core.Path.{_≡_}
 use mathlib.Core.Bool.{Bool, true, false}

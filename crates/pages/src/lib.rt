@@ -11,7 +11,7 @@ ghost use lib.Seq.{paste};
 ghost use Rattle.derivation.specs.Tree.{scriptWords};
 ghost use Rattle.derivation.specs.Derivations.{readings, pageOf};
 ghost use Rattle.layout.specs.Layout.{decode};
-ghost use Rattle.image.specs.Image.{Accepted};
+ghost use Rattle.image.specs.Accepted.{Accepted};
 ghost use Rattle.table.specs.Table.{limit};
 ghost use Rattle.table.specs.Fill.{CountsIn};
 

@@ -6,7 +6,7 @@ ghost use Prim.Native.Nat.{_≤_, _<_};
 ghost use lib.ListN.{length};
 ghost use Rattle.derivation.specs.Grammar.{pairCount, pairRule};
 ghost use Rattle.layout.specs.Layout.{decode};
-ghost use Rattle.image.specs.Image.{Accepted};
+ghost use Rattle.image.specs.Accepted.{Accepted};
 ghost use Rattle.table.specs.Fill.{InReach, CountsIn};
 ghost use Rattle.pages.specs.Step.{firstBy, SplitIs, NextIs};
 

@@ -4,7 +4,7 @@ use lookup::Pair;
 ghost use Prim.Native.Nat.{_≤_, _<_};
 ghost use lib.ListN.{length};
 ghost use Rattle.layout.specs.Layout.{decode};
-ghost use Rattle.image.specs.Image.{Accepted};
+ghost use Rattle.image.specs.Accepted.{Accepted};
 ghost use Rattle.table.specs.Fill.{CountsIn};
 ghost use Rattle.pages.specs.Step.{Begun, Stepped, SomeParted, PartsStepped};
 

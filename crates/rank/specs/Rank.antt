@@ -1,4 +1,4 @@
--- From a derivation to its number. What the rules and splits before it have is what they add to the words of a table (`table: Fill`).
+-- Inside: from a derivation to its number. What the rules and splits before it have is what they add to the words of a table (`table: Fill`).
 -- Assumes nothing.
 use mathlib.Core.Path.{_≡_}
 use mathlib.Core.List.{List}

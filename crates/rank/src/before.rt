@@ -7,7 +7,7 @@ ghost use lib.ListN.{length};
 ghost use Rattle.bits.specs.Sum.{sum, between};
 ghost use Rattle.derivation.specs.Grammar.{pairCount};
 ghost use Rattle.layout.specs.Layout.{decode};
-ghost use Rattle.image.specs.Image.{Accepted};
+ghost use Rattle.image.specs.Accepted.{Accepted};
 ghost use Rattle.table.specs.Table.{held, tableWords};
 ghost use Rattle.table.specs.Fill.{splitAdds, pairAdds, InReach};
 ghost use Rattle.rank.specs.Rank.{placeOf};

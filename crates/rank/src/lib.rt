@@ -8,7 +8,7 @@ ghost use Rattle.derivation.specs.Tree.{Spells};
 ghost use Rattle.derivation.specs.Reading.{IsReading};
 ghost use Rattle.derivation.specs.Derivations.{NumberOf, RankOf};
 ghost use Rattle.layout.specs.Layout.{decode};
-ghost use Rattle.image.specs.Image.{Accepted};
+ghost use Rattle.image.specs.Accepted.{Accepted};
 ghost use Rattle.table.specs.Fill.{CountsIn};
 ghost use Rattle.rank.specs.Rank.{HeldOf};
 

@@ -10,8 +10,10 @@ use Rattle.derivation.specs.Tree.{scriptWords}
 use Rattle.derivation.specs.Reading.{IsReading}
 use Rattle.derivation.specs.Derivations.{NumberOf}
 use Rattle.layout.specs.Layout.{decode}
-use Rattle.image.specs.Refusal.{First, Exactly}
-use Rattle.image.specs.Image.{mostEvents, imageRows, eventRows, recordRows, Accepted}
+use Rattle.image.specs.Refusal.{First}
+use Rattle.image.specs.Exactly.{Exactly}
+use Rattle.image.specs.Image.{mostEvents, imageRows, eventRows, recordRows}
+use Rattle.image.specs.Accepted.{Accepted}
 use Rattle.image.proofs.Refusals.{none, pass, first-only, past-zero, reached, passed, all-hold}
 use Rattle.image.proofs.Images.{accepted-back, record-holding}
 use Rattle.table.specs.Table.{limit}

@@ -15,7 +15,8 @@ use Rattle.derivation.specs.Derivations.{join, readings, count, pageOf, NumberO
 use Rattle.derivation.proofs.Flag.{derivations-flagged, readings-flagged, reading-flagged, flagged-reading}
 use Rattle.layout.specs.Layout.{decode}
 use Rattle.image.specs.Refusal.{_unless_, FirstOf, First}
-use Rattle.image.specs.Image.{imageRows, eventRows, Accepted}
+use Rattle.image.specs.Image.{imageRows, eventRows}
+use Rattle.image.specs.Accepted.{Accepted}
 use Rattle.image.proofs.Refusals.{behind}
 use Rattle.image.proofs.Flags.{rows-flagged, names-flagged}
 use Rattle.table.specs.Table.{limit, held, tableWords, Filled}

@@ -11,7 +11,8 @@ use lib.ListN.{length, take, drop}
 use Rattle.derivation.specs.Tree.{scriptWords}
 use Rattle.derivation.proofs.Pages.{page-one, page-at}
 use Rattle.layout.specs.Layout.{decode}
-use Rattle.image.specs.Refusal.{Row, _unless_, FirstOf, First, AllHold}
+use Rattle.image.specs.Refusal.{Row, _unless_, FirstOf, First}
+use Rattle.image.specs.Exactly.{AllHold}
 use Rattle.image.proofs.Refusals.{all-hold, first-only, past-zero, passed}
 use Rattle.image.specs.Image.{mostEvents}
 use Rattle.table.specs.Table.{limit, held}

@@ -12,8 +12,10 @@ use Rattle.derivation.specs.Reading.{IsReading}
 use Rattle.derivation.specs.Derivations.{NumberOf}
 use Rattle.derivation.proofs.Numbering.{of-number, number-once}
 use Rattle.layout.specs.Layout.{decode}
-use Rattle.image.specs.Refusal.{Row, _unless_, FirstOf, First, demand, AllHold}
-use Rattle.image.specs.Image.{mostEvents, recordRows, Names, Accepted}
+use Rattle.image.specs.Refusal.{Row, _unless_, FirstOf, First}
+use Rattle.image.specs.Exactly.{demand, AllHold}
+use Rattle.image.specs.Image.{mostEvents, recordRows, Names}
+use Rattle.image.specs.Accepted.{Accepted}
 use Rattle.image.proofs.Refusals.{Lacks, none, fail, pass, all-hold, reached, never}
 use Rattle.image.proofs.Named.{names-before, names-behind}
 use Rattle.image.proofs.Images.{record-holding}

@@ -1,4 +1,4 @@
--- What `check` answers, for any image b, any events w and any words s.
+-- Promised: what `check` answers, for any image b, any events w and any words s.
 -- Assumes nothing.
 use mathlib.Core.Path.{_≡_}
 use mathlib.Core.Logic.{_≢_}

@@ -1,4 +1,4 @@
--- What `count` answers and what it leaves in the lent table, for any image b, any events w and any table.
+-- Promised: what `count` answers and what it leaves in the lent table, for any image b, any events w and any table.
 -- Assumes nothing.
 use mathlib.Core.Path.{_≡_}
 use mathlib.Core.Logic.{_≢_}

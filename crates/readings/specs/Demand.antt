@@ -1,4 +1,4 @@
--- Demand 3, of what the service `reading` answers and writes: its numbers and the readings are one to one, in order.
+-- Shown: Demand 3, of what the service `reading` answers and writes: its numbers and the readings are one to one, in order.
 -- Assumes nothing.
 use mathlib.Core.Path.{_≡_}
 use mathlib.Core.List.{List}

@@ -1,9 +1,10 @@
--- What the answer 0 of count, reading, page and number says of image, record and lent memory.
+-- Shown: what the answer 0 of count, reading, page and number says of image, record and lent memory.
 -- Assumes nothing.
 use mathlib.Core.List.{List}
 use Prim.Native.Nat.{ℕ, _≤_, _<_}
 use Rattle.layout.specs.Layout.{decode}
-use Rattle.image.specs.Image.{mostEvents, Accepted}
+use Rattle.image.specs.Image.{mostEvents}
+use Rattle.image.specs.Accepted.{Accepted}
 use Rattle.table.specs.Table.{limit, tableWords}
 
 -- an accepted grammar, a record of n events that is not too long, and a table of size words that is long enough

@@ -1,4 +1,4 @@
--- What `number` answers and what it leaves in the lent table, for any image b, any events w, any words s and any table.
+-- Promised: what `number` answers and what it leaves in the lent table, for any image b, any events w, any words s and any table.
 -- Assumes nothing.
 use mathlib.Core.Path.{_≡_}
 use mathlib.Core.Logic.{_≢_}

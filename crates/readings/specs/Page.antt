@@ -1,4 +1,4 @@
--- What `page` answers and what it leaves in the lent table and room, for any image b, any events w, any numbers k and m, any table and room.
+-- Promised: what `page` answers and what it leaves in the lent table and room, for any image b, any events w, any numbers k and m, any table and room.
 -- Assumes nothing.
 use mathlib.Core.Path.{_≡_}
 use mathlib.Core.Logic.{_≢_}

@@ -1,4 +1,4 @@
--- Request (ix), of what the services `page` and `reading` answer and write: a page has the same words as single calls.
+-- Shown: Request (ix), of what the services `page` and `reading` answer and write: a page has the same words as single calls.
 -- Assumes nothing.
 use mathlib.Core.Path.{_≡_}
 use mathlib.Core.List.{List}

@@ -1,4 +1,4 @@
--- What `reading` answers and what it leaves in the lent table and room, for any image b, any events w, any number k, any table and room.
+-- Promised: what `reading` answers and what it leaves in the lent table and room, for any image b, any events w, any number k, any table and room.
 -- Assumes nothing.
 use mathlib.Core.Path.{_≡_}
 use mathlib.Core.Logic.{_⊎_, _≢_}

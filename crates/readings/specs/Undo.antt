@@ -1,4 +1,4 @@
--- Request (i), of what the services `reading` and `number` answer and write: number to script and script to number undo each other.
+-- Shown: Request (i), of what the services `reading` and `number` answer and write: number to script and script to number undo each other.
 -- Assumes nothing.
 use mathlib.Core.Path.{_≡_}
 use mathlib.Core.List.{List}

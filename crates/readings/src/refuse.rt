@@ -5,7 +5,7 @@ ghost use Prim.Native.Nat.{ℕ, _*_};
 ghost use Rattle.derivation.specs.Tree.{scriptWords};
 ghost use Rattle.layout.specs.Layout.{decode};
 ghost use Rattle.image.specs.Refusal.{First};
-ghost use Rattle.image.specs.Image.{RefusalIs};
+ghost use Rattle.image.specs.Refuse.{RefusalIs};
 ghost use Rattle.table.specs.Table.{held};
 ghost use Rattle.readings.specs.Count.{countRows};
 ghost use Rattle.readings.specs.Reading.{lentRows, numberRows};

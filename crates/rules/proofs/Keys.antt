@@ -11,7 +11,7 @@ use Rattle.derivation.specs.Grammar.{Grammar, leafCount, ruleCount}
 use Rattle.derivation.specs.Sound.{asNumbers, Rises}
 use Rattle.derivation.proofs.Orders.{none-before}
 use Rattle.derivation.proofs.Sound.{leaf-numbers, pair-numbers}
-use Rattle.rules.specs.Fault.{LeafKey, PairKey, KeyIs}
+use Rattle.rules.specs.Tests.{LeafKey, PairKey, KeyIs}
 
 -- the first difference decides
 by-front : (x y : ℕ) {xs ys : List ℕ} → (y < x → ⊥) → (x ≡ y → Before xs ys) → Before (x ∷ xs) (y ∷ ys)

@@ -2,8 +2,9 @@
 ghost use Rattle.bits.specs.Truth.{Decides};
 ghost use Rattle.derivation.specs.Grammar.{ruleCount};
 ghost use Rattle.derivation.specs.Sound.{SymbolsFit, Rises};
-ghost use Rattle.layout.specs.Layout.{decode, Whole, HasRule};
-ghost use Rattle.rules.specs.Fault.{KeyIs, Passes, SearchIs};
+ghost use Rattle.layout.specs.Layout.{decode, Whole};
+ghost use Rattle.layout.specs.Present.{HasRule};
+ghost use Rattle.rules.specs.Tests.{KeyIs, Passes, SearchIs};
 
 // ---- one rule
 

@@ -18,11 +18,12 @@ use Rattle.derivation.specs.Chart.{cellsBefore}
 use Rattle.derivation.proofs.Columns.{before-mono}
 use Rattle.layout.specs.Layout.{decode}
 use Rattle.image.specs.Refusal.{First}
-use Rattle.image.specs.Image.{imageRows, Names, Accepted}
+use Rattle.image.specs.Image.{imageRows, Names}
+use Rattle.image.specs.Accepted.{Accepted}
 use Rattle.image.proofs.Refusals.{first-only, all-hold, reached, passed}
 use Rattle.image.proofs.Images.{accepted}
 use Rattle.image.proofs.Named.{names-same, names-before}
-use Rattle.columns.specs.Fill.{rd}
+use Rattle.columns.specs.NewColumn.{rd}
 use Rattle.columns.proofs.OneColumn.{column-only}
 use Rattle.session.specs.declared.Session.{Session}
 use Rattle.session.specs.declared.Added.{Added}

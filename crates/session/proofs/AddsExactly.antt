@@ -7,13 +7,14 @@ use native.Mathlib.Omega.{arith}
 use Rattle.derivation.specs.Grammar.{Grammar, flagged}
 use Rattle.derivation.specs.Chart.{eventFirings, pairFirings, cellFirings, columnFirings}
 use Rattle.layout.specs.Layout.{decode}
-use Rattle.image.specs.Refusal.{Exactly}
-use Rattle.image.specs.Image.{imageRows, Accepted}
+use Rattle.image.specs.Exactly.{Exactly}
+use Rattle.image.specs.Image.{imageRows}
+use Rattle.image.specs.Accepted.{Accepted}
 use Rattle.image.proofs.Refusals.{first-only, past-zero, pass, none}
 use Rattle.image.proofs.Images.{accepted-back}
 use Rattle.image.proofs.Flags.{rows-flagged, names-flagged}
-use Rattle.kernel.specs.Fire.{hit, conclusions, leafConclusions}
-use Rattle.columns.specs.Fill.{cellConclusions}
+use Rattle.kernel.specs.Conclude.{hit, conclusions, leafConclusions}
+use Rattle.columns.specs.NewColumn.{cellConclusions}
 use Rattle.session.specs.declared.Session.{Session}
 use Rattle.session.specs.declared.Added.{Added}
 use Rattle.session.specs.Session.{mostAdded, countRows, AddAnswered, AddIs}

@@ -10,7 +10,7 @@ use Rattle.derivation.specs.Grammar.{Grammar}
 use Rattle.derivation.specs.Sound.{Sound}
 use Rattle.derivation.proofs.Columns.{before-mono}
 use Rattle.layout.specs.Layout.{decode}
-use Rattle.columns.specs.Fill.{rd, ColumnFilled}
+use Rattle.columns.specs.NewColumn.{rd, ColumnFilled}
 use Rattle.columns.proofs.OneColumn.{symbols-decide, symbols-fire, no-other-symbol}
 use Rattle.session.specs.declared.Session.{Session}
 use Rattle.session.specs.declared.Added.{Added}

@@ -18,11 +18,13 @@ use Rattle.derivation.specs.Chart.{cellsBefore, cellAt, cells}
 use Rattle.derivation.proofs.Numbering.{known-telling}
 use Rattle.derivation.proofs.Columns.{cells-column, before-more}
 use Rattle.layout.specs.Layout.{decode}
-use Rattle.image.specs.Image.{imageRows, eventRows, Accepted}
+use Rattle.image.specs.Image.{imageRows, eventRows}
+use Rattle.image.specs.Accepted.{Accepted}
 use Rattle.image.proofs.Refusals.{none, pass, first-only, past-zero}
 use Rattle.image.proofs.Images.{accepted-back}
 use Rattle.chart.specs.declared.Judged.{Judged}
-use Rattle.columns.specs.Fill.{ColumnFilled, Columns, onesTo, TopHas}
+use Rattle.columns.specs.Fill.{Columns, onesTo, TopHas}
+use Rattle.columns.specs.NewColumn.{ColumnFilled}
 use Rattle.chart.specs.Judge.{chartRows, Answered, JudgeIs}
 use Rattle.columns.proofs.Fills.{columns-start, columns-along, columns-step}
 use Rattle.chart.proofs.Judges.{answer, shows-only, chart-only}

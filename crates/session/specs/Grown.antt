@@ -1,4 +1,4 @@
--- Request (iv), of sessions that adds with one image have grown from the empty one: after each event they are the chart of a fresh judgement,
+-- Shown: Request (iv), of sessions that adds with one image have grown from the empty one: after each event they are the chart of a fresh judgement,
 -- and the event can be taken back.
 -- Assumes nothing.
 use mathlib.Core.Path.{_≡_}

@@ -1,4 +1,4 @@
--- What the services of a session answer, for any image b, any event e and any session: whatever its words and its count are.
+-- Promised: what the services of a session answer, for any image b, any event e and any session: whatever its words and its count are.
 -- Assumes nothing.
 use mathlib.Core.Path.{_≡_}
 use mathlib.Core.Logic.{_≢_}
@@ -14,7 +14,7 @@ use Rattle.derivation.specs.Chart.{cellAt}
 use Rattle.layout.specs.Layout.{decode}
 use Rattle.image.specs.Refusal.{Row, _unless_, First}
 use Rattle.image.specs.Image.{imageRows, Names}
-use Rattle.columns.specs.Fill.{rd, ColumnFilled}
+use Rattle.columns.specs.NewColumn.{rd, ColumnFilled}
 use Rattle.session.specs.declared.Session.{Session}
 use Rattle.session.specs.declared.Added.{Added}
 use Rattle.session.specs.declared.TakenBack.{TakenBack}

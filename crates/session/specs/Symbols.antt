@@ -1,10 +1,10 @@
--- Bits of symbols that the grammar does not have: in the older columns of a session they make no difference, and a new column has none.
+-- Shown: Bits of symbols that the grammar does not have: in the older columns of a session they make no difference, and a new column has none.
 -- Assumes nothing.
 use mathlib.Core.Path.{_≡_}
 use Prim.Native.Nat.{ℕ, _+_, _≤_, _<_}
 use Rattle.bits.specs.Bit.{bit}
 use Rattle.derivation.specs.Grammar.{Grammar}
-use Rattle.columns.specs.Fill.{rd}
+use Rattle.columns.specs.NewColumn.{rd}
 use Rattle.session.specs.declared.Session.{Session}
 use Rattle.session.specs.declared.Added.{Added}
 

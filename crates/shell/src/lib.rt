@@ -6,7 +6,7 @@ ghost use Prim.Native.Nat.{_+_, _-_, _≤_, _<_};
 ghost use lib.ListN.{length};
 ghost use lib.Signed.{nonNeg};
 ghost use Rattle.io.specs.Counts.{Counts, clamped};
-ghost use Rattle.image.specs.Image.{longestImage};
+ghost use Rattle.image.specs.Accepted.{longestImage};
 ghost use Rattle.listing.specs.Listing.{mostEventBytes, mostBytes};
 
 // What was read of a file: whether it could be opened and every read went well, and how many bytes stand at the buffer's start.

@@ -10,7 +10,8 @@ use lib.ListN.{getD}
 use lib.Bits.{bitOr}
 use Rattle.bits.specs.Truth.{same}
 use Rattle.bits.specs.Sum.{sum}
-use Rattle.bits.specs.Bit.{bit, put, Without}
+use Rattle.bits.specs.Bit.{bit}
+use Rattle.bits.specs.Word.{put, Without}
 use Rattle.bits.proofs.Truths.{same-refl, same-other}
 use Rattle.bits.proofs.Sums.{sum-le}
 use Rattle.bits.proofs.Bits.{bit-lt, bit-or, bit-shift, bit-of-zero}

@@ -1,4 +1,4 @@
--- The filler in its own terms: what the rules add to the words of a cell, from the words of the table as they stand.
+-- Inside: the filler in its own terms: what the rules add to the words of a cell, from the words of the table as they stand.
 -- No contract of a service mentions these.
 -- Assumes nothing.
 use mathlib.Core.Path.{_≡_}

@@ -1,4 +1,4 @@
--- The count table: which word counts what, how many words it needs, and what it holds when it is filled.
+-- Promised: the count table: which word counts what, how many words it needs, and what it holds when it is filled.
 -- Assumes nothing.
 use mathlib.Core.Path.{_≡_}
 use mathlib.Core.List.{List}

@@ -9,7 +9,7 @@ ghost use lib.ListN.{length, getD, set};
 ghost use Rattle.derivation.specs.Grammar.{leafCount, pairCount};
 ghost use Rattle.derivation.specs.Derivations.{known};
 ghost use Rattle.layout.specs.Layout.{decode};
-ghost use Rattle.image.specs.Image.{Accepted};
+ghost use Rattle.image.specs.Accepted.{Accepted};
 ghost use Rattle.bits.specs.Frame.{Framed, Zeros};
 ghost use Rattle.marks.specs.Mark.{Apart, Told};
 ghost use Rattle.marks.specs.Shown.{InUse, Lefts, Shown};

@@ -9,7 +9,7 @@ ghost use Prim.Native.Nat.{_≤_, _<_};
 ghost use lib.ListN.{length, getD};
 ghost use Rattle.derivation.specs.Derivations.{readings};
 ghost use Rattle.layout.specs.Layout.{decode};
-ghost use Rattle.image.specs.Image.{Accepted};
+ghost use Rattle.image.specs.Accepted.{Accepted};
 ghost use Rattle.table.specs.Table.{held, slotOf, tableWords, Filled};
 ghost use Rattle.table.specs.Fill.{splitAdds, InReach, CountsIn};
 

@@ -1,4 +1,4 @@
--- Text as bytes: a number in decimal, a line of numbers; and bytes as 16-bit words.
+-- Promised: text as bytes: a number in decimal, a line of numbers; and bytes as 16-bit words.
 -- Assumes nothing.
 use Prim.Native.Nat.{ℕ, zero, suc, _+_, _*_, _/_, _%_}
 use mathlib.Core.Bool.{cond}

@@ -1,4 +1,4 @@
--- From a number to a derivation: which rule and split it is by, and the numbers of its parts. The shares of rules and splits are what
+-- Inside: from a number to a derivation: which rule and split it is by, and the numbers of its parts. The shares of rules and splits are what
 -- they add to the words of a table (`table: Fill`).
 -- Assumes nothing.
 use mathlib.Core.Path.{_≡_}

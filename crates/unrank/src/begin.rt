@@ -1,6 +1,6 @@
 // Where the rules of a symbol begin, by halving: rules of one kind rise.
 ghost use Rattle.layout.specs.Layout.{decode};
-ghost use Rattle.image.specs.Image.{Accepted};
+ghost use Rattle.image.specs.Accepted.{Accepted};
 ghost use Rattle.unrank.specs.Choice.{OneKind, Passed};
 
 // Of the rules from `from` up to `to`, which are of one kind, those before this one have lesser symbols.

@@ -6,7 +6,7 @@ ghost use Rattle.bits.specs.Sum.{sum};
 ghost use Rattle.derivation.specs.Derivations.{count as number};
 ghost use Rattle.derivation.specs.Grammar.{leafCount, pairCount};
 ghost use Rattle.layout.specs.Layout.{decode};
-ghost use Rattle.image.specs.Image.{Accepted};
+ghost use Rattle.image.specs.Accepted.{Accepted};
 ghost use Rattle.table.specs.Table.{limit, tableWords};
 ghost use Rattle.table.specs.Fill.{pairAdds, leafAdds, InReach, CountsIn};
 ghost use Rattle.unrank.specs.Choice.{Picked, Chosen, ChosenLeaf, Planned};

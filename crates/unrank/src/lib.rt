@@ -14,7 +14,7 @@ ghost use Rattle.derivation.specs.Reading.{quiet, spelling};
 ghost use Rattle.derivation.specs.Derivations.{derivations, readings, count as number};
 ghost use Rattle.derivation.specs.Numbering.{none};
 ghost use Rattle.layout.specs.Layout.{decode};
-ghost use Rattle.image.specs.Image.{Accepted};
+ghost use Rattle.image.specs.Accepted.{Accepted};
 ghost use Rattle.table.specs.Table.{limit};
 ghost use Rattle.table.specs.Fill.{CountsIn};
 ghost use Rattle.unrank.specs.Choice.{PlanOk, planTree};

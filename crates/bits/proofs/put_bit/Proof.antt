@@ -5,7 +5,7 @@ use native.Mathlib.Omega.{arith}
 use mathlib.Core.Path.{ap}
 use lib.Bits.{bitOr}
 use lib.Pow.{shl-exact}
-use Rattle.bits.specs.Bit.{put}
+use Rattle.bits.specs.Word.{put}
 use Rattle.bits.proofs.put_bit.Statement.{statement}
 use Rattle.bits.proofs.put_bit.Tie as tie
 

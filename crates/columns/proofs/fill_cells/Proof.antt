@@ -5,7 +5,7 @@ use Prim.Native.Nat.{_+_, _-_, _*_, _≤_}
 use native.Mathlib.Nat.{sub-zero}
 use lib.ListN.{length, length-set}
 use Rattle.layout.specs.Layout.{decode}
-use Rattle.columns.specs.Fill.{inChart}
+use Rattle.columns.specs.NewColumn.{inChart}
 use Rattle.marks.specs.Shown.{Shown}
 use Rattle.columns.proofs.Fills.{Part, part-start, part-step, part-done}
 use Rattle.columns.proofs.Shows.{shown-stored, column-empty, column-shown}

@@ -5,7 +5,8 @@ use Prim.Native.Nat.{_+_, _-_, _*_, _≤_, _<_}
 use lib.ListN.{length}
 use Rattle.derivation.proofs.Columns.{cell-within}
 use Rattle.layout.specs.Layout.{decode}
-use Rattle.columns.specs.Fill.{inChart, Columns}
+use Rattle.columns.specs.Fill.{Columns}
+use Rattle.columns.specs.NewColumn.{inChart}
 use Rattle.marks.specs.Shown.{InUse, Lefts}
 use Rattle.columns.proofs.Fills.{columns-start, columns-step}
 use Rattle.marks.proofs.Shows.{lefts-next}

@@ -1,6 +1,6 @@
 -- `meet` by a test.
 -- Assumes nothing.
-use Rattle.bits.specs.Bit.{meet}
+use Rattle.bits.specs.Word.{meet}
 use native.Mathlib.Omega.{arith}
 use Rattle.kernel.proofs.shares.Statement.{statement}
 use Rattle.kernel.proofs.shares.Tie as tie

@@ -5,7 +5,7 @@ use native.Mathlib.Omega.{arith}
 use borrow.Author.Count.{below-none, below-more}
 use mathlib.Core.Path.{refl, sym, _∙_}
 use Rattle.bits.specs.Truth.{Every}
-use Rattle.bits.specs.Bit.{Has}
+use Rattle.bits.specs.Word.{Has}
 use Rattle.live.proofs.Searches.{lacking, having}
 use Rattle.live.proofs.has_all.Statement.{statement}
 use Rattle.live.proofs.has_all.Tie as tie

@@ -4,7 +4,7 @@ use borrow.Author.Needs.{needs}
 use native.Mathlib.Omega.{arith}
 use Prim.Native.Nat.{ℕ}
 use mathlib.Core.Path.{sym, ap, _∙_, subst⁻¹}
-use Rattle.bits.specs.Bit.{put}
+use Rattle.bits.specs.Word.{put}
 use Rattle.derivation.proofs.Sound.{pair-symbol, pair-fits, symbol-fits}
 use Rattle.layout.specs.Layout.{decode}
 use Rattle.live.specs.declared.Sought.the-variants.{Reachable}

@@ -7,7 +7,7 @@ use borrow.Author.Count.{below-none, below-more}
 use Rattle.bits.specs.Truth.{Every}
 use Rattle.bits.proofs.Truths.{holds, fails}
 use Rattle.layout.specs.Layout.{decode}
-use Rattle.rules.specs.Fault.{Passes}
+use Rattle.rules.specs.Tests.{Passes}
 use Rattle.rules.proofs.first_fault.Statement.{statement}
 use Rattle.rules.proofs.first_fault.Tie as tie
 

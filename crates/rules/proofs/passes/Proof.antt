@@ -5,7 +5,7 @@ use mathlib.Core.Path.{subst⁻¹}
 use Rattle.bits.specs.Truth.{Decides}
 use Rattle.rules.specs.declared.Demand.{Demand}
 use Rattle.layout.specs.Layout.{decode}
-use Rattle.rules.specs.Fault.{Passes}
+use Rattle.rules.specs.Tests.{Passes}
 use Rattle.rules.proofs.passes.Statement.{statement}
 use Rattle.rules.proofs.passes.Tie as tie
 
