@@ -1,4 +1,4 @@
--- What is written: the numbers of a refusal, the heading, the lines of the scripts in a room one more at a time, of two files or of none; and
+-- What is written: the numbers of a refusal, the words behind a total, the lines of the scripts in a room one more at a time, of two files or of none; and
 -- one outcome only.
 -- Assumes nothing.
 use mathlib.Core.Path.{_≡_, refl, sym, ap, ap₂, _∙_}
@@ -11,21 +11,18 @@ use native.Mathlib.Numerals.{add-one}
 use native.Mathlib.Decide.{ℕ-discrete}
 use native.Mathlib.Omega.{arith}
 use borrow.Author.Tests.{eq-eqb, ne-eqb}
-use lib.ListN.{length, getD, take, drop}
+use lib.ListN.{length, getD, take, drop, take-append-drop}
 use lib.Seq.{take-suc, length-take-le}
 use Rattle.bits.proofs.Truths.{lt-or-ge}
 use Rattle.derivation.specs.Derivations.{join}
 use Rattle.image.proofs.Refusals.{first-only}
 use Rattle.image.proofs.Named.{names-same}
 use Rattle.table.specs.Table.{limit}
-use Rattle.text.specs.Text.{line}
+use Rattle.text.specs.Text.{line, Put}
+use Rattle.text.proofs.Puts.{put-none, put-more, put-as}
 use Rattle.listing.specs.Listing.{mostBytes, lineBytes, refusedWords, refusedLine, orMore, lines, ListingIs, noFileLine, OutputIs, Written}
 
--- ---- one piece behind the other
-pub heading-text : (h n m t u v x : List ℕ) → t ≡ h → u ≡ t ++ n → v ≡ u ++ m → x ≡ v ++ (10 ∷ []) → x ≡ h ++ (n ++ (m ++ (10 ∷ [])))
-heading-text h n m t u v x a b c d =
-    d ∙ rw (c, b, a) (append-assoc (h ++ n) m (10 ∷ []) ∙ append-assoc h n (m ++ (10 ∷ [])))
-
+-- ---- " or more"
 pub or-more-no : (t : ℕ) → (t ≡ limit → ⊥) → orMore t ≡ []
 or-more-no t n = rw (ne-eqb t limit n)
 
@@ -72,11 +69,11 @@ module _ (room : List ℕ) (n : ℕ) where
   pub record Listed (before : List ℕ) (at x from end : ℕ) (now : List ℕ) : Type 0 where
     pub place : from ≡ x * n
     pub small : end ≤ at + x * lineBytes
-    pub text : take end now ≡ take at before ++ linesOf x
+    pub put : Put (linesOf x) before at end now
 
   pub listed-start : (before : List ℕ) (at : ℕ) → Listed before at 0 0 at before
   unfolding join
-  listed-start before at = record { place = sym (zero-mul n); small = omega arith; text = sym (append-nil (take at before)) }
+  listed-start before at = record { place = sym (zero-mul n); small = omega arith; put = put-none before at }
 
   module _ (before : List ℕ) (at x from end : ℕ) (now : List ℕ) (v : Listed before at x from end now) where
     -- there is one script more
@@ -86,12 +83,12 @@ module _ (room : List ℕ) (n : ℕ) where
         next : x + 1 ≤ count
         next = omega arith
 
-    pub listed-step : (r : ℕ) (after : List ℕ) → r ≤ end + lineBytes → take r after ≡ take end now ++ line (take (from + n - from) (drop from room))
+    pub listed-step : (r : ℕ) (after : List ℕ) → r ≤ end + lineBytes → Put (line (take (from + n - from) (drop from room))) now end r after
         → Listed before at (x + 1) (from + n) r after
     listed-step r after l e = record {
       place = omega (arith, v .place, next-place x);
       small = let s = v .small in omega arith;
-      text = e ∙ ap₂ (λ (t m : List ℕ). t ++ m) (v .text) same ∙ append-assoc (take at before) (linesOf x) _ ∙ ap (λ (t : List ℕ). take at before ++ t) (sym (lines-next x));
+      put = put-as _ _ _ _ _ _ (ap (λ (t : List ℕ). linesOf x ++ t) same ∙ sym (lines-next x)) (put-more _ _ _ _ _ _ _ _ (v .put) e);
     }
       where
         size : from + n - from ≡ n
@@ -126,16 +123,17 @@ output-only g h b e o u p q = go (g && h) refl
     go true t = listing-only b e o u (p .listed t) (q .listed t)
     go false f = p .noFile f ∙ sym (q .noFile f)
 
-pub written-only : (g h : Bool) (b e before after later : List ℕ) (r s : ℕ) → Written g b h e before r after → Written g b h e before s later
-    → (r ≡ s) × (take r after ≡ take s later)
+pub written-only : (g h : Bool) (b e before after later : List ℕ) (r s : ℕ) → Written g b h e before r after → Written g b h e before s later → (r ≡ s) × (after ≡ later)
 written-only g h b e before after later r s p q = ⊎-elim short enough (lt-or-ge (length before) mostBytes)
   where
-    short : length before < mostBytes → (r ≡ s) × (take r after ≡ take s later)
-    short l = let x = p .short l in let y = q .short l in (x .0 ∙ sym (y .0), ap₂ take (x .0 ∙ sym (y .0)) (x .1 ∙ sym (y .1)))
+    short : length before < mostBytes → (r ≡ s) × (after ≡ later)
+    short l = let x = p .short l in let y = q .short l in (x .0 ∙ sym (y .0), x .1 ∙ sym (y .1))
 
-    enough : mostBytes ≤ length before → (r ≡ s) × (take r after ≡ take s later)
+    enough : mostBytes ≤ length before → (r ≡ s) × (after ≡ later)
     enough l =
         let x = p .enough l in
         let y = q .enough l in
         let t = output-only g h b e (take r after) (take s later) (x .1) (y .1) in
-        (sym (length-take-le r after (x .0)) ∙ ap length t ∙ length-take-le s later (y .0), t)
+        let n = sym (length-take-le r after (x .0)) ∙ ap length t ∙ length-take-le s later (y .0) in
+        let d = p .rest ∙ ap (λ (k : ℕ). drop k before) n ∙ sym (q .rest) in
+        (n, sym (take-append-drop r after) ∙ ap₂ (λ (u v : List ℕ). u ++ v) t d ∙ take-append-drop s later)

@@ -6,7 +6,7 @@ use mathlib.Core.Bool.{Bool, true, false, cond, _&&_}
 use mathlib.Core.List.{List, [], _∷_, _++_}
 use Prim.Native.Nat.{ℕ, _+_, _*_, _%_, _≤_, _<_}
 use lib.Dec.{eqb}
-use lib.ListN.{length, take}
+use lib.ListN.{length, take, drop}
 use Rattle.derivation.specs.Grammar.{Grammar}
 use Rattle.derivation.specs.Tree.{scriptWords}
 use Rattle.derivation.specs.Derivations.{scripts}
@@ -92,7 +92,8 @@ lineBytes = 6 * scriptWords mostEvents + 1
 abbrev pub mostBytes : ℕ
 mostBytes = 64 + mostListed * lineBytes
 
--- with a lent room of so many bytes all of it stands in the first r; with less nothing is written
+-- with a lent room of so many bytes all of it stands in the first r; with less nothing is written; the other bytes stay as they were
 pub record Written (grammarRead : Bool) (b : List ℕ) (eventsRead : Bool) (e before : List ℕ) (r : ℕ) (after : List ℕ) : Type 0 where
   pub short : length before < mostBytes → (r ≡ 0) × (after ≡ before)
   pub enough : mostBytes ≤ length before → (r ≤ length after) × OutputIs grammarRead b eventsRead e (take r after)
+  pub rest : drop r after ≡ drop r before

@@ -4,13 +4,14 @@ mod lines; // a line for each script
 
 ghost use mathlib.Core.Path.{_≡_};
 ghost use mathlib.Core.Bool.{_&&_};
-ghost use mathlib.Core.List.{[], _∷_, _++_};
-ghost use Prim.Native.Nat.{ℕ, _+_, _≤_, _<_};
-ghost use lib.ListN.{length, take};
+ghost use mathlib.Core.List.{[], _∷_};
+ghost use Prim.Native.Nat.{ℕ, _+_, _≤_};
+ghost use lib.ListN.{length, take, drop};
 ghost use Rattle.layout.specs.Layout.{decode};
 ghost use Rattle.image.specs.Image.{mostEvents};
 ghost use Rattle.image.specs.Accepted.{Accepted};
 ghost use Rattle.table.specs.Table.{tableWords};
+ghost use Rattle.text.specs.Text.{Put};
 ghost use Rattle.listing.specs.Listing.{mostWords, mostBytes, refusedWords, refusedLine, orMore, heading, listing, ListingIs, noFileLine, OutputIs, Written};
 
 // The scripts that are listed at most.
@@ -45,7 +46,7 @@ fn told(number: u8) -> usize
 
 fn write_refused(out: &mut [u8], number: u8, rule: u16) -> usize
     requires { ⌜ 64 ≤ length (now out) ⌝ }
-    ensures { λ r. ⌜ (r ≤ length (now (out .exit))) × (take r (now (out .exit)) ≡ refusedLine number rule) ⌝ }
+    ensures { λ r. ⌜ (r ≤ length (now (out .exit))) × Put (refusedLine number rule) (now (out .entry)) 0 r (now (out .exit)) ⌝ }
 {
     let behind = text::put_bytes(out, 0, b"refused ");
     let words = [number as u16, rule];
@@ -55,7 +56,7 @@ fn write_refused(out: &mut [u8], number: u8, rule: u16) -> usize
 
 fn put_or_more(out: &mut [u8], at: usize, total: u32) -> usize
     requires { ⌜ at + 8 ≤ length (now out) ⌝ }
-    ensures { λ r. ⌜ (r ≤ at + 8) × (take r (now (out .exit)) ≡ take at (now (out .entry)) ++ orMore total) ⌝ }
+    ensures { λ r. ⌜ (r ≤ at + 8) × Put (orMore total) (now (out .entry)) at r (now (out .exit)) ⌝ }
 {
     if total == table::LIMIT {
         return text::put_bytes(out, at, b" or more");
@@ -65,7 +66,7 @@ fn put_or_more(out: &mut [u8], at: usize, total: u32) -> usize
 
 fn write_heading(out: &mut [u8], total: u32) -> usize
     requires { ⌜ 64 ≤ length (now out) ⌝ }
-    ensures { λ r. ⌜ (r ≤ 28) × (take r (now (out .exit)) ≡ heading total) ⌝ }
+    ensures { λ r. ⌜ (r ≤ 28) × Put (heading total) (now (out .entry)) 0 r (now (out .exit)) ⌝ }
 {
     let behind = text::put_bytes(out, 0, b"readings ");
     let number = text::put_number(out, behind, total);
@@ -78,7 +79,7 @@ fn write_readings(image: &[u8], events: &[u16], out: &mut [u8]) -> usize
     requires { ⌜ Accepted (now image) ⌝ }
     requires { ⌜ (length (now events) ≤ mostEvents) × (tableWords (decode (now image) .symbols) (length (now events)) ≤ mostWords) ⌝ }
     requires { ⌜ mostBytes ≤ length (now out) ⌝ }
-    ensures { λ r. ⌜ (r ≤ length (now (out .exit))) × (take r (now (out .exit)) ≡ listing (decode (now (image .entry))) (now (events .entry))) ⌝ }
+    ensures { λ r. ⌜ (r ≤ length (now (out .exit))) × Put (listing (decode (now (image .entry))) (now (events .entry))) (now (out .entry)) 0 r (now (out .exit)) ⌝ }
 {
     let mut table = [0u32; TABLE_WORDS];
     let mut room = [0u16; MOST_LISTED as usize * SCRIPT_WORDS];
@@ -92,7 +93,8 @@ fn write_readings(image: &[u8], events: &[u16], out: &mut [u8]) -> usize
 // What is written of the bytes of two files: a refusal, or the listing.
 fn write_listing(image: &[u8], events: &[u8], out: &mut [u8]) -> usize
     requires { ⌜ mostBytes ≤ length (now out) ⌝ }
-    ensures { λ r. ⌜ (r ≤ length (now (out .exit))) × ListingIs (now (image .entry)) (now (events .entry)) (take r (now (out .exit))) ⌝ }
+    ensures { λ r. ⌜ (r ≤ length (now (out .exit))) × ListingIs (now (image .entry)) (now (events .entry)) (take r (now (out .exit)))
+        × (drop r (now (out .exit)) ≡ drop r (now (out .entry))) ⌝ }
 {
     let refusal = refuse::program_refusal(image, events);
     let number = refusal.number;
@@ -106,7 +108,7 @@ fn write_listing(image: &[u8], events: &[u8], out: &mut [u8]) -> usize
 
 fn write_no_file(out: &mut [u8]) -> usize
     requires { ⌜ 64 ≤ length (now out) ⌝ }
-    ensures { λ r. ⌜ (r ≤ length (now (out .exit))) × (take r (now (out .exit)) ≡ noFileLine) ⌝ }
+    ensures { λ r. ⌜ (r ≤ length (now (out .exit))) × Put noFileLine (now (out .entry)) 0 r (now (out .exit)) ⌝ }
 {
     text::put_bytes(out, 0, b"no file\n")
 }
@@ -130,7 +132,8 @@ fn write_files(
 ) -> usize
     requires { ⌜ mostBytes ≤ length (now out) ⌝ }
     ensures { λ r. ⌜ (r ≤ length (now (out .exit)))
-        × OutputIs «grammar_read» (now (image .entry)) «events_read» (now (events .entry)) (take r (now (out .exit))) ⌝ }
+        × OutputIs «grammar_read» (now (image .entry)) «events_read» (now (events .entry)) (take r (now (out .exit)))
+        × (drop r (now (out .exit)) ≡ drop r (now (out .entry))) ⌝ }
 {
     if both(grammar_read, events_read) {
         return write_listing(image, events, out);

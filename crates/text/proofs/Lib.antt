@@ -2,3 +2,4 @@ pub mod Short
 pub mod Fewest
 pub mod Lines
 pub mod Pairs
+pub mod Puts

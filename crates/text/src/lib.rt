@@ -2,14 +2,14 @@
 ghost use mathlib.Core.Path.{_≡_};
 ghost use mathlib.Core.List.{_++_, _∷_, []};
 ghost use Prim.Native.Nat.{_+_, _*_, _/_, _≤_, _<_};
-ghost use lib.ListN.{length, take, drop};
-ghost use Rattle.text.specs.Text.{text, line, words};
+ghost use lib.ListN.{length, drop};
+ghost use Rattle.text.specs.Text.{text, line, words, Put};
 
 // One byte at the place at; answers the place behind it.
 pub fn put_byte(out: &mut [u8], at: usize, b: u8) -> usize
     requires { ⌜ at < length (now out) ⌝ }
     ensures { λ r. ⌜ r ≡ at + 1 ⌝ }
-    ensures { λ r. ⌜ take r (now (out .exit)) ≡ take at (now (out .entry)) ++ (b ∷ []) ⌝ }
+    ensures { λ r. ⌜ Put (b ∷ []) (now (out .entry)) at r (now (out .exit)) ⌝ }
 {
     out[at] = b;
     at + 1
@@ -19,7 +19,7 @@ pub fn put_byte(out: &mut [u8], at: usize, b: u8) -> usize
 pub fn put_bytes(out: &mut [u8], at: usize, src: &[u8]) -> usize
     requires { ⌜ at + length (now src) ≤ length (now out) ⌝ }
     ensures { λ r. ⌜ r ≡ at + length (now (src .entry)) ⌝ }
-    ensures { λ r. ⌜ take r (now (out .exit)) ≡ take at (now (out .entry)) ++ now (src .entry) ⌝ }
+    ensures { λ r. ⌜ Put (now (src .entry)) (now (out .entry)) at r (now (out .exit)) ⌝ }
 {
     let mut i: usize = 0;
     while i < src.len() {
@@ -33,7 +33,7 @@ pub fn put_bytes(out: &mut [u8], at: usize, src: &[u8]) -> usize
 pub fn put_number(out: &mut [u8], at: usize, x: u32) -> usize
     requires { ⌜ at + 20 ≤ length (now out) ⌝ }
     ensures { λ r. ⌜ r ≤ at + 10 ⌝ }
-    ensures { λ r. ⌜ take r (now (out .exit)) ≡ take at (now (out .entry)) ++ text x ⌝ }
+    ensures { λ r. ⌜ Put (text x) (now (out .entry)) at r (now (out .exit)) ⌝ }
 {
     let mut digits = [0u8; 20];
     let k = io::decimal(x as u64, &mut digits);
@@ -44,7 +44,7 @@ pub fn put_number(out: &mut [u8], at: usize, x: u32) -> usize
 pub fn put_word(out: &mut [u8], at: usize, x: u16) -> usize
     requires { ⌜ at + 20 ≤ length (now out) ⌝ }
     ensures { λ r. ⌜ r ≤ at + 5 ⌝ }
-    ensures { λ r. ⌜ take r (now (out .exit)) ≡ take at (now (out .entry)) ++ text x ⌝ }
+    ensures { λ r. ⌜ Put (text x) (now (out .entry)) at r (now (out .exit)) ⌝ }
 {
     put_number(out, at, x as u32)
 }
@@ -53,7 +53,7 @@ pub fn put_word(out: &mut [u8], at: usize, x: u16) -> usize
 fn put_spaced(out: &mut [u8], at: usize, x: u16) -> usize
     requires { ⌜ at + 21 ≤ length (now out) ⌝ }
     ensures { λ r. ⌜ r ≤ at + 6 ⌝ }
-    ensures { λ r. ⌜ take r (now (out .exit)) ≡ take at (now (out .entry)) ++ (32 ∷ text x) ⌝ }
+    ensures { λ r. ⌜ Put (32 ∷ text x) (now (out .entry)) at r (now (out .exit)) ⌝ }
 {
     let next = put_byte(out, at, 32);
     put_word(out, next, x)
@@ -63,7 +63,7 @@ fn put_spaced(out: &mut [u8], at: usize, x: u16) -> usize
 pub fn put_line(out: &mut [u8], at: usize, words: &[u16]) -> usize
     requires { ⌜ at + 6 * length (now words) + 21 ≤ length (now out) ⌝ }
     ensures { λ r. ⌜ r ≤ at + 6 * length (now (words .entry)) + 1 ⌝ }
-    ensures { λ r. ⌜ take r (now (out .exit)) ≡ take at (now (out .entry)) ++ line (now (words .entry)) ⌝ }
+    ensures { λ r. ⌜ Put (line (now (words .entry))) (now (out .entry)) at r (now (out .exit)) ⌝ }
 {
     if words.len() == 0 {
         return put_byte(out, at, 10);

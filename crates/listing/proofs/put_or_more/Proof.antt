@@ -1,11 +1,8 @@
 -- The words stand behind the total exactly where it is the limit.
 -- Assumes nothing.
-use mathlib.Core.Path.{sym, ap, _∙_}
-use mathlib.Core.List.{List, _++_, append-nil}
-use Prim.Native.Nat.{ℕ}
+use mathlib.Core.Path.{sym}
 use native.Mathlib.Omega.{arith}
-use lib.ListN.{take}
-use denote.Ref.{now}
+use Rattle.text.proofs.Puts.{put-none, put-as}
 use Rattle.listing.proofs.Lists.{or-more-yes, or-more-no}
 use borrow.Author.Needs.{needs}
 use Rattle.listing.proofs.put_or_more.Statement.{statement}
@@ -21,10 +18,12 @@ same-length : tie.Need-same-length
 same-length c = search needs
 
 returns : tie.Need-returns
-returns c = (omega (arith, c .before .before .put-bytes .ensures .0), c .before .before .put-bytes .ensures .1 ∙ ap (λ (x : List ℕ). take (c .before .before .before .before .before .before .before .args .at) (now (c .before .before .before .before .before .before .before .args .out)) ++ x) (sym (or-more-yes _ (c .before .before .before .before .before .if1 .taken))))
+returns c =
+    let p = c .before .before .put-bytes .ensures in
+    (omega (arith, p .0), put-as _ _ _ _ _ _ (sym (or-more-yes _ (c .before .before .before .before .before .if1 .taken))) (p .1))
 
 returns-2 : tie.Need-returns-2
-returns-2 c = (omega arith, sym (append-nil _) ∙ ap (λ (x : List ℕ). take (c .before .before .args .at) (now (c .before .before .args .out)) ++ x) (sym (or-more-no _ (c .if1 .left))))
+returns-2 c = (omega arith, put-as _ _ _ _ _ _ (sym (or-more-no _ (c .if1 .left))) (put-none _ _))
 
 pub put-or-more-spec : {M : Type 1} → statement M
 put-or-more-spec =

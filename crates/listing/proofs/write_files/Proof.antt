@@ -18,7 +18,7 @@ same-length c = search needs
 returns : tie.Need-returns
 returns c =
     let w = c .before .before .write-listing .ensures in
-    (w .0, both-there _ _ _ _ _ (sym (c .before .before .before .before .before .both .ensures) ∙ c .before .before .before .before .if1 .taken) (w .1))
+    (w .0, both-there _ _ _ _ _ (sym (c .before .before .before .before .before .both .ensures) ∙ c .before .before .before .before .if1 .taken) (w .1), w .2)
 
 write-no-file-requires : tie.Need-write-no-file-requires
 write-no-file-requires c κs = search needs
@@ -29,7 +29,7 @@ same-length-2 c = search needs
 returns-2 : tie.Need-returns-2
 returns-2 c =
     let w = c .before .before .write-no-file .ensures in
-    (w .0, one-not-there _ _ _ _ _ (sym (c .before .before .before .before .before .both .ensures) ∙ c .before .before .before .before .if1 .left) (w .1))
+    (w .0, one-not-there _ _ _ _ _ (sym (c .before .before .before .before .before .both .ensures) ∙ c .before .before .before .before .if1 .left) (w .1 .written), w .1 .rest)
 
 pub write-files-spec : {M : Type 1} → statement M
 write-files-spec =

@@ -1,7 +1,7 @@
 -- Each piece stands behind the one before, and all of them are short.
 -- Assumes nothing.
 use native.Mathlib.Omega.{arith}
-use Rattle.listing.proofs.Lists.{heading-text}
+use Rattle.text.proofs.Puts.{put-more}
 use borrow.Author.Needs.{needs}
 use Rattle.listing.proofs.write_heading.Statement.{statement}
 use Rattle.listing.proofs.write_heading.Tie as tie
@@ -25,10 +25,14 @@ same-length : tie.Need-same-length
 same-length c = search needs
 
 returns : tie.Need-returns
-returns c = (
-  omega (arith, c .before .before .put-byte .ensures .0, c .before .before .before .before .before .before .put-or-more .ensures .0, c .before .before .before .before .before .before .before .before .before .before .put-number .ensures .0, c .before .before .before .before .before .before .before .before .before .before .before .before .before .before .put-bytes .ensures .0),
-  heading-text _ _ _ _ _ _ _ (c .before .before .before .before .before .before .before .before .before .before .before .before .before .before .put-bytes .ensures .1) (c .before .before .before .before .before .before .before .before .before .before .put-number .ensures .1) (c .before .before .before .before .before .before .put-or-more .ensures .1) (c .before .before .put-byte .ensures .1),
-)
+returns c =
+    let end = c .before .before .put-byte .ensures in
+    let more = c .before .before .before .before .before .before .put-or-more .ensures in
+    let number = c .before .before .before .before .before .before .before .before .before .before .put-number .ensures in
+    let word = c .before .before .before .before .before .before .before .before .before .before .before .before .before .before .put-bytes .ensures in (
+      omega (arith, end .0, more .0, number .0, word .0),
+      put-more _ _ _ _ _ _ _ _ (word .1) (put-more _ _ _ _ _ _ _ _ (number .1) (put-more _ _ _ _ _ _ _ _ (more .1) (end .1))),
+    )
 
 pub write-heading-spec : {M : Type 1} → statement M
 write-heading-spec =

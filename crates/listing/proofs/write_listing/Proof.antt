@@ -33,7 +33,7 @@ returns : tie.Need-returns
 returns c =
     let w = c .before .before .write-refused .ensures in
     let f = c .before .before .before .before .before .program-refusal .ensures in
-    (w .0, record { number = _; rule = _; first = f .number; names = f .rule; refused = λ _. w .1; listed = λ z. absurd (c .before .before .before .before .if1 .taken z) })
+    (w .0, record { number = _; rule = _; first = f .number; names = f .rule; refused = λ _. w .1 .written; listed = λ z. absurd (c .before .before .before .before .if1 .taken z) }, w .1 .rest)
 
 slice-aggregate-read-words : tie.Need-slice-aggregate-read-words
 slice-aggregate-read-words c = search needs
@@ -67,8 +67,9 @@ returns-2 c =
         first = rw (c .before .before .before .before .before .before .before .before .if1 .left) at (c .before .before .before .before .before .before .before .before .before .program-refusal .ensures .number);
         names = names-before (omega arith) refl;
         refused = λ z. absurd (z refl);
-        listed = λ _. w .1 ∙ ap (listing (decode (c .before .before .before .before .before .before .before .before .before .before .before .before .before .args .image .now))) e;
+        listed = λ _. w .1 .written ∙ ap (listing (decode (c .before .before .before .before .before .before .before .before .before .before .before .before .before .args .image .now))) e;
       },
+      w .1 .rest,
     )
 
 pub write-listing-spec : {M : Type 1} → statement M

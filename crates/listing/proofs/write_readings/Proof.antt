@@ -1,12 +1,13 @@
 -- The page of the first readings fills the table and holds their scripts; the heading is written by the one, and the lines by the other.
 -- Assumes nothing.
-use mathlib.Core.Path.{_≡_, ap, ap₂, _∙_}
+use mathlib.Core.Path.{_≡_, ap, ap₂}
 use mathlib.Core.List.{_++_}
 use Prim.Native.Nat.{ℕ, _*_, _≤_}
 use native.Mathlib.Nat.{le-trans, mul-le-mul-left, mul-le-mul-right}
 use native.Mathlib.Omega.{arith}
 use Rattle.derivation.specs.Tree.{scriptWords}
 use Rattle.image.specs.Image.{mostEvents}
+use Rattle.text.proofs.Puts.{put-more, put-as}
 use Rattle.listing.specs.Listing.{mostListed, heading}
 use Rattle.listing.proofs.FirstPage.{page-most, page-counts, page-lines}
 use borrow.Author.Needs.{needs}
@@ -72,7 +73,7 @@ returns c =
     let p = t .before .before .before .before in
     let q = p .before .before .before .before .before .before .pre in
     let l = page-lines _ _ _ _ _ _ _ (p .page .ensures) (q .0) (q .1 .0 .0) (q .1 .0 .1) (longest _ _ (q .1 .0 .0)) _ (n .script-words .ensures) in
-    (w .0, w .1 ∙ ap₂ _++_ (h .write-heading .ensures .1 ∙ ap heading (t .total-in .ensures)) l)
+    (w .0, put-as _ _ _ _ _ _ (ap₂ _++_ (ap heading (t .total-in .ensures)) l) (put-more _ _ _ _ _ _ _ _ (h .write-heading .ensures .1) (w .1)))
 
 pub write-readings-spec : {M : Type 1} → statement M
 write-readings-spec =

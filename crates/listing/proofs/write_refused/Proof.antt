@@ -1,11 +1,12 @@
 -- The word, and behind it the line of the numbers that tell the refusal, at most two.
 -- Assumes nothing.
-use mathlib.Core.Path.{sym, ap₂, _∙_}
+use mathlib.Core.Path.{sym, ap}
 use mathlib.Core.List.{List, [], _∷_, _++_}
 use Prim.Native.Nat.{ℕ}
 use native.Mathlib.Omega.{arith}
 use lib.Seq.{length-take-le}
 use Rattle.text.specs.Text.{line}
+use Rattle.text.proofs.Puts.{put-more, put-as}
 use borrow.Author.Needs.{needs}
 use Rattle.listing.proofs.write_refused.Statement.{statement}
 use Rattle.listing.proofs.write_refused.Tie as tie
@@ -41,7 +42,7 @@ returns c =
     let b = c .before .before .before .before .before .before .before .before .put-bytes .ensures in
     let s = c .before .before .before .before .before .before .before .before .before .before .before .before in (
       omega (arith, p .0, t .0, length-take-le _ (s .args .number ∷ s .args .rule ∷ []) (t .0), b .0),
-      p .1 ∙ ap₂ (λ (x y : List ℕ). x ++ line y) (b .1) (t .1 (s .args .rule)),
+      put-as _ _ _ _ _ _ (ap (λ (x : List ℕ). (114 ∷ 101 ∷ 102 ∷ 117 ∷ 115 ∷ 101 ∷ 100 ∷ 32 ∷ []) ++ line x) (t .1 (s .args .rule))) (put-more _ _ _ _ _ _ _ _ (b .1) (p .1)),
     )
 
 pub write-refused-spec : {M : Type 1} → statement M

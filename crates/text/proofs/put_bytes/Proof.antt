@@ -5,7 +5,7 @@ use Prim.Native.Nat.{_-_, _≤_}
 use native.Mathlib.Numerals.{add-one}
 use native.Mathlib.Omega.{arith}
 use lib.ListN.{length, length-set}
-use lib.Seq.{paste, paste-zero, paste-suc, take-paste, take-length}
+use lib.Seq.{paste, paste-zero, paste-suc, take-paste, drop-paste, take-length}
 use borrow.Author.Needs.{needs}
 use Rattle.text.proofs.put_bytes.Statement.{statement}
 use Rattle.text.proofs.put_bytes.Tie as tie
@@ -50,8 +50,14 @@ returns : tie.Need-returns Inv-loop μ-loop
 returns c =
     let l = c .before .loop in
     let a = c .before .before .args in
-    let e : l .i ≡ length (a .src .now) = omega arith in
-    (omega arith, cc (take-paste (a .out .now) (a .at) (a .src .now) (l .i) (omega arith) (omega arith), take-length (a .src .now)))
+    let e : l .i ≡ length (a .src .now) = omega arith in (
+      omega arith,
+      record {
+        behind = omega arith;
+        written = cc (take-paste (a .out .now) (a .at) (a .src .now) (l .i) (omega arith) (omega arith), take-length (a .src .now));
+        rest = cc (drop-paste (a .out .now) (a .at) (a .src .now) (l .i) (omega arith) (omega arith));
+      },
+    )
 
 pub put-bytes-spec : {M : Type 1} → statement M
 put-bytes-spec =

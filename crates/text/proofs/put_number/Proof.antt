@@ -30,7 +30,8 @@ returns : tie.Need-returns
 returns c =
     let written = c .before .before .before .before .before in
     let d = written .decimal in
-    (omega (arith, few written), cc (fewest-text _ (d .result) (omega (arith, few written)) (d .ensures .1 .0)))
+    let p = c .before .before .put-bytes .ensures .1 in
+    (omega (arith, few written), record { behind = p .behind; written = cc (fewest-text _ (d .result) (omega (arith, few written)) (d .ensures .1 .0)); rest = p .rest })
 
 pub put-number-spec : {M : Type 1} → statement M
 put-number-spec =

@@ -1,9 +1,7 @@
--- Behind the space stands the word: one byte and then the rest are one list.
+-- Behind the space stands the word.
 -- Assumes nothing.
 use native.Mathlib.Omega.{arith}
-use lib.ListN.{take}
-use lib.Seq.{append-snoc}
-use Rattle.text.specs.Text.{text}
+use Rattle.text.proofs.Puts.{put-more}
 use borrow.Author.Needs.{needs}
 use Rattle.text.proofs.put_spaced.Statement.{statement}
 use Rattle.text.proofs.put_spaced.Tie as tie
@@ -19,8 +17,7 @@ same-length c = search needs
 
 returns : tie.Need-returns
 returns c =
-    let a = c .before .before .before .before .before .before .before .before .before .args in
-    (omega arith, cc (append-snoc (take (a .at) (a .out .now)) 32 (text (a .x))))
+    (omega arith, put-more _ _ _ _ _ _ _ _ (c .before .before .before .before .before .before .put-byte .ensures .1) (c .before .before .put-word .ensures .1))
 
 pub put-spaced-spec : {M : Type 1} → statement M
 put-spaced-spec = tie.close (tie.spec put-byte-requires put-word-requires same-length returns)

@@ -18,8 +18,8 @@ returns : tie.Need-returns
 returns c =
     let a = c .before .before .before .before .before .args in
     let p = c .before .before .put-number in
-    let e = place-behind (a .out .now) (p .last .0) (text (a .x)) (a .at) (p .result) (omega arith) (omega arith) (p .ensures .1) in
-    (omega (arith, text-short 5 (a .x) (lit< tt) (omega arith)), search needs)
+    let e = place-behind (a .out .now) (p .last .0) (text (a .x)) (a .at) (p .result) (omega arith) (omega arith) (p .ensures .1 .written) in
+    (omega (arith, text-short 5 (a .x) (lit< tt) (omega arith)), p .ensures .1)
 
 pub put-word-spec : {M : Type 1} → statement M
 put-word-spec = tie.close (tie.spec put-number-requires same-length returns)

@@ -63,7 +63,7 @@ returns c =
     let v = c .before .loop .inv in
     let q = c .before .before .before .before .pre in
     let e : c .before .loop .x ≡ c .before .before .before .before .args .count = omega (arith, v .0, c .loop-test .left) in
-    (omega (arith, v .0, v .1, v .2 .small, q .0 .1, q .1), rw e at (v .2 .text))
+    (omega (arith, v .0, v .1, v .2 .small, q .0 .1, q .1), rw e at (v .2 .put))
 
 pub write-lines-spec : {M : Type 1} → statement M
 write-lines-spec =
