@@ -22,14 +22,14 @@ pub extern "C" fn reader_test(
     pairs: &mut usize,
 ) -> u8
     ensures { λ n. ⌜ TestedIs (imageRows (now (image .entry))) (decode (now (image .entry)))
-        (record { number = n; rule = now (rule .exit); symbols = now (symbols .exit); leaves = now (leaves .exit); pairs = now (pairs .exit) }) ⌝ }
+        (record { refusal = n; rule = now (rule .exit); symbols = now (symbols .exit); leaves = now (leaves .exit); pairs = now (pairs .exit) }) ⌝ }
 {
     let tested = image::test_image(image);
     *rule = tested.rule;
     *symbols = tested.symbols;
     *leaves = tested.leaves;
     *pairs = tested.pairs;
-    tested.number
+    tested.refusal
 }
 
 // Judges a record.
@@ -44,7 +44,7 @@ pub extern "C" fn reader_judge(
     firings: &mut u64,
 ) -> u8
     ensures { λ n. ⌜ JudgeIs (now (image .entry)) (now (events .entry)) (now (chart .entry))
-        (record { number = n; rule = now (rule .exit); admitted = now (admitted .exit); items = now (items .exit); firings = now (firings .exit) })
+        (record { refusal = n; rule = now (rule .exit); admitted = now (admitted .exit); items = now (items .exit); firings = now (firings .exit) })
         (now (chart .exit)) ⌝ }
 {
     let judged = chart::judge(image, events, chart);
@@ -52,7 +52,7 @@ pub extern "C" fn reader_judge(
     *admitted = judged.admitted;
     *items = judged.items;
     *firings = judged.firings;
-    judged.number
+    judged.refusal
 }
 
 // Counts the readings of a record.
@@ -65,12 +65,12 @@ pub extern "C" fn reader_count(
     total: &mut u32,
 ) -> u8
     ensures { λ n. ⌜ CountIs (now (image .entry)) (now (events .entry)) (now (table .entry))
-        (record { number = n; rule = now (rule .exit); total = now (total .exit) }) (now (table .exit)) ⌝ }
+        (record { refusal = n; rule = now (rule .exit); total = now (total .exit) }) (now (table .exit)) ⌝ }
 {
     let counted = readings::count(image, events, table);
     *rule = counted.rule;
     *total = counted.total;
-    counted.number
+    counted.refusal
 }
 
 // Gives reading number k as a script.
@@ -84,11 +84,11 @@ pub extern "C" fn reader_reading(
     rule: &mut u16,
 ) -> u8
     ensures { λ n. ⌜ ReadingIs (now (image .entry)) (now (events .entry)) k (now (table .entry)) (now (room .entry))
-        (record { number = n; rule = now (rule .exit) }) (now (table .exit)) (now (room .exit)) ⌝ }
+        (record { refusal = n; rule = now (rule .exit) }) (now (table .exit)) (now (room .exit)) ⌝ }
 {
     let read = readings::reading(image, events, k, table, room);
     *rule = read.rule;
-    read.number
+    read.refusal
 }
 
 // Gives the readings from number k on as scripts, m of them or as many as there are.
@@ -104,12 +104,12 @@ pub extern "C" fn reader_page(
     written: &mut u32,
 ) -> u8
     ensures { λ n. ⌜ PageIs (now (image .entry)) (now (events .entry)) k m (now (table .entry)) (now (room .entry))
-        (record { number = n; rule = now (rule .exit); written = now (written .exit) }) (now (table .exit)) (now (room .exit)) ⌝ }
+        (record { refusal = n; rule = now (rule .exit); written = now (written .exit) }) (now (table .exit)) (now (room .exit)) ⌝ }
 {
     let paged = readings::page(image, events, k, m, table, room);
     *rule = paged.rule;
     *written = paged.written;
-    paged.number
+    paged.refusal
 }
 
 // Checks a script.
@@ -122,12 +122,12 @@ pub extern "C" fn reader_check(
     yes: &mut bool,
 ) -> u8
     ensures { λ n. ⌜ CheckIs (now (image .entry)) (now (events .entry)) (now (script .entry))
-        (record { number = n; rule = now (rule .exit); yes = now (yes .exit) }) ⌝ }
+        (record { refusal = n; rule = now (rule .exit); yes = now (yes .exit) }) ⌝ }
 {
     let checked = readings::check(image, events, script);
     *rule = checked.rule;
     *yes = checked.yes;
-    checked.number
+    checked.refusal
 }
 
 // Finds the number of a script.
@@ -141,12 +141,12 @@ pub extern "C" fn reader_number(
     reading: &mut u32,
 ) -> u8
     ensures { λ n. ⌜ NumberIs (now (image .entry)) (now (events .entry)) (now (script .entry)) (now (table .entry))
-        (record { number = n; rule = now (rule .exit); reading = now (reading .exit) }) (now (table .exit)) ⌝ }
+        (record { refusal = n; rule = now (rule .exit); reading = now (reading .exit) }) (now (table .exit)) ⌝ }
 {
     let found = readings::number(image, events, script, table);
     *rule = found.rule;
     *reading = found.reading;
-    found.number
+    found.refusal
 }
 
 // The session without events.
@@ -172,7 +172,7 @@ pub extern "C" fn reader_add(
     firings: &mut u64,
 ) -> u8
     ensures { λ n. ⌜ AddIs (now (image .entry)) (record { chart = now (chart .entry); count = now (count .entry) }) event
-        (record { session = record { chart = now (chart .exit); count = now (count .exit) }; firings = now (firings .exit); rule = now (rule .exit); number = n; admitted = now (admitted .exit) }) ⌝ }
+        (record { session = record { chart = now (chart .exit); count = now (count .exit) }; firings = now (firings .exit); rule = now (rule .exit); refusal = n; admitted = now (admitted .exit) }) ⌝ }
 {
     let before = Session {
         chart: *chart,
@@ -186,14 +186,14 @@ pub extern "C" fn reader_add(
     *rule = added.rule;
     *admitted = added.admitted;
     *firings = added.firings;
-    added.number
+    added.refusal
 }
 
 // Takes the last event of a session back.
 #[no_mangle]
 pub extern "C" fn reader_take_back(chart: &mut [u64; session::WORDS], count: &mut u64) -> u8
     ensures { λ n. ⌜ TakeBackIs (record { chart = now (chart .entry); count = now (count .entry) })
-        (record { session = record { chart = now (chart .exit); count = now (count .exit) }; number = n }) ⌝ }
+        (record { session = record { chart = now (chart .exit); count = now (count .exit) }; refusal = n }) ⌝ }
 {
     let before = Session {
         chart: *chart,
@@ -204,5 +204,5 @@ pub extern "C" fn reader_take_back(chart: &mut [u64; session::WORDS], count: &mu
     let words = left.chart;
     *chart = words;
     *count = left.count;
-    taken.number
+    taken.refusal
 }

@@ -41,13 +41,13 @@ tells-exactly : (g : Grammar) (w : List ℕ) (A i k x : ℕ) → Tells g w A i k
 tells-exactly g w A i k x t = record { only = λ e. of-known g w A i k (sym (tells-only g w A i k x t) ∙ e); whenever = t .yes }
 
 module _ (b w before : List ℕ) (r : Judged) (after : List ℕ) (p : JudgeIs b w before r after) where
-  judgeable : Exactly (r .number ≡ 0) (Judgeable b w before)
+  judgeable : Exactly (r .refusal ≡ 0) (Judgeable b w before)
   judgeable = record {
     only = λ e.
-        let h = answered-exactly (judgeRows b w before) (omega arith) (p .number) .only e in
+        let h = answered-exactly (judgeRows b w before) (omega arith) (p .refusal) .only e in
         let d = record-holding b (length w) (all-front demand (recordRows b (length w)) (chartRows (length w) (length before)) h) in
         record { image = d .0; few = d .1; room = all-back demand (recordRows b (length w)) (chartRows (length w) (length before)) h .0 };
-    whenever = λ j. first-only (p .number)
+    whenever = λ j. first-only (p .refusal)
         (past-zero (recordRows b (length w)) (chartRows (length w) (length before)) (omega arith) 0 refl
         (past-zero _ (eventRows (length w)) (omega arith) 0 refl (accepted-back b (j .image)) (pass (j .few) none)) (pass (j .room) none));
   }
@@ -80,8 +80,8 @@ module _ (q : ℕ) (g : Grammar) (w : List ℕ) (some : 0 < length w) (before : 
 pub judge-flag : (b c : List ℕ) (q : ℕ) → decode c ≡ flagged q (decode b) → Accepted b → Accepted c → (w : List ℕ) → 0 < length w
     → (before : List ℕ) (r : Judged) (after : List ℕ) → JudgeIs b w before r after → JudgeIs c w before r after
 judge-flag b c q e x y w some before r after p = record {
-  number = rows-flagged b c x y (eventRows (length w) ++ chartRows (length w) (length before)) (r .number) (p .number);
-  rule = names-flagged b c x y (eventRows (length w) ++ chartRows (length w) (length before)) (r .number) (p .number) (omega arith) (omega arith) (p .rule);
+  refusal = rows-flagged b c x y (eventRows (length w) ++ chartRows (length w) (length before)) (r .refusal) (p .refusal);
+  rule = names-flagged b c x y (eventRows (length w) ++ chartRows (length w) (length before)) (r .refusal) (p .refusal) (omega arith) (omega arith) (p .rule);
   refused = λ z. record { admitted = p .refused z .admitted; items = p .refused z .items; firings = p .refused z .firings; kept = p .refused z .kept };
   answered = λ z. subst (λ (h : Grammar). Answered h w before r after) (sym e) (answered-flagged q (decode b) w some before r after (p .answered z));
 }

@@ -64,22 +64,22 @@ module _ (g : Grammar) (ok : Sound g) (w c₀ c : List ℕ) (m : ℕ) (whole : C
 -- ---- what a refusal answers, and what success does
 module _ (b w c₀ c : List ℕ) (r : Judged) where
   pub refusal : (n m : ℕ) → n ≢ 0 → First (judgeRows b w c₀) n → Names (decode b) n m
-      → r ≡ record { number = n; rule = m; admitted = false; items = 0; firings = 0 } → c ≡ c₀ → JudgeIs b w c₀ r c
+      → r ≡ record { refusal = n; rule = m; admitted = false; items = 0; firings = 0 } → c ≡ c₀ → JudgeIs b w c₀ r c
   refusal n m z p q e k = record {
-    number = subst⁻¹ (First (judgeRows b w c₀)) (ap (λ (t : Judged). t .number) e) p;
-    rule = subst⁻¹ (λ (t : Judged). Names (decode b) (t .number) (t .rule)) e q;
+    refusal = subst⁻¹ (First (judgeRows b w c₀)) (ap (λ (t : Judged). t .refusal) e) p;
+    rule = subst⁻¹ (λ (t : Judged). Names (decode b) (t .refusal) (t .rule)) e q;
     refused = λ _. record {
       admitted = ap (λ (t : Judged). t .admitted) e;
       items = ap (λ (t : Judged). t .items) e;
       firings = ap (λ (t : Judged). t .firings) e;
       kept = k;
     };
-    answered = λ y. absurd (z (ap (λ (t : Judged). t .number) (sym e) ∙ y));
+    answered = λ y. absurd (z (ap (λ (t : Judged). t .refusal) (sym e) ∙ y));
   }
 
-  pub success : r .number ≡ 0 → r .rule ≡ 0 → First (judgeRows b w c₀) 0 → Answered (decode b) w c₀ r c → JudgeIs b w c₀ r c
+  pub success : r .refusal ≡ 0 → r .rule ≡ 0 → First (judgeRows b w c₀) 0 → Answered (decode b) w c₀ r c → JudgeIs b w c₀ r c
   success z m p a = record {
-    number = subst⁻¹ (First (judgeRows b w c₀)) z p;
+    refusal = subst⁻¹ (First (judgeRows b w c₀)) z p;
     rule = names-before (omega arith) m;
     refused = λ y. absurd (y z);
     answered = λ _. a;
@@ -94,8 +94,8 @@ module _ (g : Grammar) (w c d : List ℕ) (p : Shows g w c) (q : Shows g w d) wh
   pub shows-only : (y : ℕ) → y < cells (length w) → getD c y 0 ≡ getD d y 0
   shows-only y h = let e = cell-of (length w) y h in rw (e .is) (cell-only (e .i) (e .k) (e .lt) (e .le))
 
-judged-eq : (r s : Judged) → r .number ≡ s .number → r .rule ≡ s .rule → r .admitted ≡ s .admitted → r .items ≡ s .items → r .firings ≡ s .firings → r ≡ s
-judged-eq r s a m b c d = λ i. record { number = a i; rule = m i; admitted = b i; items = c i; firings = d i }
+judged-eq : (r s : Judged) → r .refusal ≡ s .refusal → r .rule ≡ s .rule → r .admitted ≡ s .admitted → r .items ≡ s .items → r .firings ≡ s .firings → r ≡ s
+judged-eq r s a m b c d = λ i. record { refusal = a i; rule = m i; admitted = b i; items = c i; firings = d i }
 
 module _ (b w c₀ : List ℕ) (r s : Judged) (c d : List ℕ) where
   pub chart-only : Answered (decode b) w c₀ r c → Answered (decode b) w c₀ s d → c ≡ d
@@ -107,10 +107,10 @@ module _ (b w c₀ : List ℕ) (r s : Judged) (c d : List ℕ) where
 
   -- the result, and every word of the chart
   pub judge-only : JudgeIs b w c₀ r c → JudgeIs b w c₀ s d → (r ≡ s) × (c ≡ d)
-  judge-only p q = go (ℕ-discrete (r .number) 0)
+  judge-only p q = go (ℕ-discrete (r .refusal) 0)
     where
-      e : r .number ≡ s .number
-      e = first-only (p .number) (q .number)
+      e : r .refusal ≡ s .refusal
+      e = first-only (p .refusal) (q .refusal)
 
       told : Telling (decode b) w (known (decode b) w)
       told = known-telling (decode b) w
@@ -118,7 +118,7 @@ module _ (b w c₀ : List ℕ) (r s : Judged) (c d : List ℕ) where
       f : r .rule ≡ s .rule
       f = names-same e (p .rule) (q .rule)
 
-      go : Dec (r .number ≡ 0) → (r ≡ s) × (c ≡ d)
+      go : Dec (r .refusal ≡ 0) → (r ≡ s) × (c ≡ d)
       go (yes z) =
           let x = p .answered z in
           let y = q .answered (sym e ∙ z) in (

@@ -23,6 +23,6 @@ pub record Judgeable (b w chart : List ℕ) : Type 0 where
   pub room : cells (length w) ≤ length chart
 
 pub record DemandTwo (b w before : List ℕ) (r : Judged) (after : List ℕ) : Type 0 where
-  pub answered : Exactly (r .number ≡ 0) (Judgeable b w before)
+  pub answered : Exactly (r .refusal ≡ 0) (Judgeable b w before)
   pub findings : Judgeable b w before → (A i k : ℕ) → i < k → k ≤ length w → Exactly (bit (getD after (cellAt i k) 0) A ≡ 1) (Derivable (decode b) w A i k)
   pub verdict : Judgeable b w before → Exactly (r .admitted ≡ true) (Admitted (decode b) w)

@@ -46,7 +46,7 @@ pub record Answered (g : Grammar) (w before : List ℕ) (r : Judged) (after : Li
   pub bound : r .firings ≤ firingsBound (length w) (g .symbols) (pairCount g)
 
 pub record JudgeIs (b w before : List ℕ) (r : Judged) (after : List ℕ) : Type 0 where
-  pub number : First (judgeRows b w before) (r .number)
-  pub rule : Names (decode b) (r .number) (r .rule)
-  pub refused : r .number ≢ 0 → Refused before r after
-  pub answered : r .number ≡ 0 → Answered (decode b) w before r after
+  pub refusal : First (judgeRows b w before) (r .refusal)
+  pub rule : Names (decode b) (r .refusal) (r .rule)
+  pub refused : r .refusal ≢ 0 → Refused before r after
+  pub answered : r .refusal ≡ 0 → Answered (decode b) w before r after

@@ -11,18 +11,18 @@ ghost use Rattle.chart.specs.Judge.{JudgeIs};
 
 // What judging answers: a refusal with zeros, or 0 with the verdict, the items and the firings. The rule is that of 6 and 7, else 0.
 pub struct Judged {
-    pub number: u8,
+    pub refusal: u8,
     pub rule: u16,
     pub admitted: bool,
     pub items: u64,
     pub firings: u64,
 }
 
-fn refused(number: u8, rule: u16) -> Judged
-    ensures { λ r. ⌜ r ≡ record { number = number; rule = rule; admitted = false; items = 0; firings = 0 } ⌝ }
+fn refused(refusal: u8, rule: u16) -> Judged
+    ensures { λ r. ⌜ r ≡ record { refusal = refusal; rule = rule; admitted = false; items = 0; firings = 0 } ⌝ }
 {
     Judged {
-        number: number,
+        refusal,
         rule: rule,
         admitted: false,
         items: 0,
@@ -61,7 +61,7 @@ pub fn judge(image: &[u8], events: &[u16], chart: &mut [u64]) -> Judged
 {
     let n = events.len();
     let tested = image::test_record(image, n);
-    let early = tested.number;
+    let early = tested.refusal;
     if early != 0 {
         return refused(early, tested.rule);
     }
@@ -73,7 +73,7 @@ pub fn judge(image: &[u8], events: &[u16], chart: &mut [u64]) -> Judged
     let admitted = top_has(image, chart, n);
     let items = items_of(chart, need);
     Judged {
-        number: 0,
+        refusal: 0,
         rule: 0,
         admitted: admitted,
         items: items,

@@ -24,9 +24,9 @@ use Rattle.image.proofs.Named.{names-same, names-none, names-before}
 use Rattle.layout.proofs.Decoded.{leaf-count, pair-count, symbol-count, quiet-flag, rules-from-low}
 
 -- ---- one answer only
-gives-only : (t u : Tested) (N L B : ℕ) → t .number ≡ u .number → t .rule ≡ u .rule → Gives t N L B → Gives u N L B → t ≡ u
+gives-only : (t u : Tested) (N L B : ℕ) → t .refusal ≡ u .refusal → t .rule ≡ u .rule → Gives t N L B → Gives u N L B → t ≡ u
 gives-only t u N L B e f p q = λ i. record {
-  number = e i;
+  refusal = e i;
   rule = f i;
   symbols = (p .symbols ∙ sym (q .symbols)) i;
   leaves = (p .leaves ∙ sym (q .leaves)) i;
@@ -34,32 +34,32 @@ gives-only t u N L B e f p q = λ i. record {
 }
 
 pub tested-only : {rows : List Row} {g : Grammar} {t u : Tested} → TestedIs rows g t → TestedIs rows g u → t ≡ u
-tested-only {t = t} {u = u} p q = go (ℕ-discrete (t .number) 0)
+tested-only {t = t} {u = u} p q = go (ℕ-discrete (t .refusal) 0)
   where
-    e : t .number ≡ u .number
-    e = first-only (p .number) (q .number)
+    e : t .refusal ≡ u .refusal
+    e = first-only (p .refusal) (q .refusal)
 
     f : t .rule ≡ u .rule
     f = names-same e (p .rule) (q .rule)
 
-    go : Dec (t .number ≡ 0) → t ≡ u
+    go : Dec (t .refusal ≡ 0) → t ≡ u
     go (yes z) = gives-only t u _ _ _ e f (p .accepted z) (q .accepted (sym e ∙ z))
     go (no z) = gives-only t u _ _ _ e f (p .refused z) (q .refused (λ w. z (e ∙ w)))
 
 -- ---- what a test answers that refuses
 pub refusal : (rows : List Row) (g : Grammar) (t : Tested) (n r : ℕ) → n ≢ 0 → First rows n → Names g n r
-    → (t .number ≡ n) × (t .rule ≡ r) × Gives t 0 0 0 → TestedIs rows g t
+    → (t .refusal ≡ n) × (t .rule ≡ r) × Gives t 0 0 0 → TestedIs rows g t
 refusal rows g t n r z p m q = record {
-  number = subst (First rows) (sym (q .0)) p;
+  refusal = subst (First rows) (sym (q .0)) p;
   rule = subst₂ (Names g) (sym (q .0)) (sym (q .1)) m;
   accepted = λ e. absurd (z (sym (q .0) ∙ e));
   refused = λ _. q .2;
 }
 
 -- and what one answers that accepts
-pub acceptance : (rows : List Row) (g : Grammar) (t : Tested) → First rows 0 → (t .number ≡ 0) × (t .rule ≡ 0) × GivesCounts t g → TestedIs rows g t
+pub acceptance : (rows : List Row) (g : Grammar) (t : Tested) → First rows 0 → (t .refusal ≡ 0) × (t .rule ≡ 0) × GivesCounts t g → TestedIs rows g t
 acceptance rows g t p q = record {
-  number = subst (First rows) (sym (q .0)) p;
+  refusal = subst (First rows) (sym (q .0)) p;
   rule = names-before (omega (arith, q .0)) (q .1);
   accepted = λ _. q .2;
   refused = λ z. absurd (z (q .0));
@@ -161,20 +161,20 @@ module _ (b : List ℕ) where
   pub accepted-short : Accepted b → length b ≤ longestImage
   accepted-short a = omega (arith, rules-from-low b, a .whole .sized, a .sound .range .leaves, a .sound .range .pairs, leaf-count b, pair-count b)
 
-  pub tested-accepted : (t : Tested) → TestedIs (imageRows b) (decode b) t → t .number ≡ 0 → Accepted b
-  tested-accepted t p e = accepted (subst (First (imageRows b)) e (p .number))
+  pub tested-accepted : (t : Tested) → TestedIs (imageRows b) (decode b) t → t .refusal ≡ 0 → Accepted b
+  tested-accepted t p e = accepted (subst (First (imageRows b)) e (p .refusal))
 
   -- the test of a record says the same, and that the events are not too many
   pub record-holding : (n : ℕ) → AllHold (recordRows b n) → Accepted b × (n ≤ mostEvents)
   record-holding n h = (holding (all-front demand (imageRows b) (eventRows n) h), all-back demand (imageRows b) (eventRows n) h .0)
 
-  pub record-accepted : (n : ℕ) (t : Tested) → TestedIs (recordRows b n) (decode b) t → t .number ≡ 0 → Accepted b × (n ≤ mostEvents)
-  record-accepted n t p e = record-holding n (all-hold (recordRows b n) (omega arith) (t .number) e (p .number))
+  pub record-accepted : (n : ℕ) (t : Tested) → TestedIs (recordRows b n) (decode b) t → t .refusal ≡ 0 → Accepted b × (n ≤ mostEvents)
+  record-accepted n t p e = record-holding n (all-hold (recordRows b n) (omega arith) (t .refusal) e (p .refusal))
 
 -- ---- for the test of a record, and for the services above: a table is the one before it and more rows
 module _ (rows more : List Row) {g : Grammar} (t : Tested) (p : TestedIs rows g t) where
-  pub refused-first : t .number ≢ 0 → First (rows ++ more) (t .number)
-  refused-first z = first-hit rows more z (p .number)
+  pub refused-first : t .refusal ≢ 0 → First (rows ++ more) (t .refusal)
+  refused-first z = first-hit rows more z (p .refusal)
 
-  pub accepted-first : Positive rows → t .number ≡ 0 → {m : ℕ} → First more m → First (rows ++ more) m
-  accepted-first o e q = past-zero rows more o (t .number) e (p .number) q
+  pub accepted-first : Positive rows → t .refusal ≡ 0 → {m : ℕ} → First more m → First (rows ++ more) m
+  accepted-first o e q = past-zero rows more o (t .refusal) e (p .refusal) q

@@ -90,8 +90,8 @@ first-bytes b t l p =
     let d = take (longestImage + 1) b in
     let s : length d ≡ longestImage + 1 = length-take-le (longestImage + 1) b (omega arith) in
     record {
-      number = begins-alike d b (t .number) (omega arith) l (λ k h. getD-take (longestImage + 1) b k 0 (omega arith)) (p .number);
-      rule = long-names d (t .number) (t .rule) (omega arith) (p .number) (p .rule);
+      refusal = begins-alike d b (t .refusal) (omega arith) l (λ k h. getD-take (longestImage + 1) b k 0 (omega arith)) (p .refusal);
+      rule = long-names d (t .refusal) (t .rule) (omega arith) (p .refusal) (p .rule);
       accepted = λ e. absurd (omega (arith, accepted-short d (tested-accepted d t p e)));
       refused = p .refused;
     }

@@ -63,10 +63,10 @@ abbrev pub recordRows : List ℕ → ℕ → List Row
 recordRows b n = imageRows b ++ eventRows n
 
 -- ---- the rule that an answer names: with 6 and 7 the first of all rules of which the refusal's own demand fails, with any other number 0
-pub record Names (g : Grammar) (number rule : ℕ) : Type 0 where
-  pub unfit : number ≡ 6 → FirstFault (ruleCount g) (SymbolsFit g) rule
-  pub low : number ≡ 7 → FirstFault (ruleCount g) (Rises g) rule
-  pub other : number ≢ 6 → number ≢ 7 → rule ≡ 0
+pub record Names (g : Grammar) (refusal rule : ℕ) : Type 0 where
+  pub unfit : refusal ≡ 6 → FirstFault (ruleCount g) (SymbolsFit g) rule
+  pub low : refusal ≡ 7 → FirstFault (ruleCount g) (Rises g) rule
+  pub other : refusal ≢ 6 → refusal ≢ 7 → rule ≡ 0
 
 -- ---- what a test by such rows answers: the first that applies with zeros, but for the rule, or 0 with N, L and B
 pub record Gives (t : Tested) (N L B : ℕ) : Type 0 where
@@ -79,7 +79,7 @@ abbrev pub GivesCounts : Tested → Grammar → Type 0
 GivesCounts t g = Gives t (g .symbols) (leafCount g) (pairCount g)
 
 pub record TestedIs (rows : List Row) (g : Grammar) (t : Tested) : Type 0 where
-  pub number : First rows (t .number)
-  pub rule : Names g (t .number) (t .rule)
-  pub accepted : t .number ≡ 0 → GivesCounts t g
-  pub refused : t .number ≢ 0 → Gives t 0 0 0
+  pub refusal : First rows (t .refusal)
+  pub rule : Names g (t .refusal) (t .rule)
+  pub accepted : t .refusal ≡ 0 → GivesCounts t g
+  pub refused : t .refusal ≢ 0 → Gives t 0 0 0

@@ -8,5 +8,5 @@ use Rattle.image.specs.declared.Refusal.{Refusal}
 
 -- what is answered by rows over the rules of g: the first number that applies, and the rule that it names
 pub record RefusalIs (rows : List Row) (g : Grammar) (r : Refusal) : Type 0 where
-  pub number : First rows (r .number)
-  pub rule : Names g (r .number) (r .rule)
+  pub refusal : First rows (r .refusal)
+  pub rule : Names g (r .refusal) (r .rule)

@@ -17,24 +17,24 @@ pub const LONGEST_IMAGE: usize = layout::HEADER_BYTES
 
 // The number of a refusal, or 0, and the first rule at fault: that of 6 and 7, with every other number 0.
 pub struct Refusal {
-    pub number: u8,
+    pub refusal: u8,
     pub rule: u16,
 }
 
 // What a test answers: a refusal with zeros, or 0 with N, L and B.
 pub struct Tested {
-    pub number: u8,
+    pub refusal: u8,
     pub rule: u16,
     pub symbols: usize,
     pub leaves: usize,
     pub pairs: usize,
 }
 
-fn refused(number: u8, rule: u16) -> Tested
-    ensures { λ t. ⌜ (t .number ≡ number) × (t .rule ≡ rule) × Gives t 0 0 0 ⌝ }
+fn refused(refusal: u8, rule: u16) -> Tested
+    ensures { λ t. ⌜ (t .refusal ≡ refusal) × (t .rule ≡ rule) × Gives t 0 0 0 ⌝ }
 {
     Tested {
-        number: number,
+        refusal,
         rule: rule,
         symbols: 0,
         leaves: 0,
@@ -44,13 +44,13 @@ fn refused(number: u8, rule: u16) -> Tested
 
 fn accepted(image: &[u8]) -> Tested
     requires { ⌜ headerBytes ≤ length (now image) ⌝ }
-    ensures { λ t. ⌜ (t .number ≡ 0) × (t .rule ≡ 0) × GivesCounts t (decode (now (image .entry))) ⌝ }
+    ensures { λ t. ⌜ (t .refusal ≡ 0) × (t .rule ≡ 0) × GivesCounts t (decode (now (image .entry))) ⌝ }
 {
     let symbols = layout::symbol_count(image);
     let leaves = layout::leaf_count(image);
     let pairs = layout::pair_count(image);
     Tested {
-        number: 0,
+        refusal: 0,
         rule: 0,
         symbols: symbols,
         leaves: leaves,
@@ -67,9 +67,9 @@ pub fn test_image(image: &[u8]) -> Tested
         return refused(early, 0);
     }
     let late = refuse::rule_refusal(image);
-    let number = late.number;
-    if number != 0 {
-        return refused(number, late.rule);
+    let refusal = late.refusal;
+    if refusal != 0 {
+        return refused(refusal, late.rule);
     }
     accepted(image)
 }
@@ -79,7 +79,7 @@ pub fn test_record(image: &[u8], events: usize) -> Tested
     ensures { λ t. ⌜ TestedIs (recordRows (now (image .entry)) events) (decode (now (image .entry))) t ⌝ }
 {
     let tested = test_image(image);
-    let early = tested.number;
+    let early = tested.refusal;
     if early != 0 {
         return tested;
     }

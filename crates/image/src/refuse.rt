@@ -120,19 +120,22 @@ pub fn rule_refusal(image: &[u8]) -> Refusal
     let unfit = rules::first_fault(image, Demand::Fits);
     if unfit < count {
         let rule = unfit as u16;
-        return Refusal { number: 6, rule };
+        return Refusal { refusal: 6, rule };
     }
     let low = rules::first_fault(image, Demand::Above);
     if low < count {
         let rule = low as u16;
-        return Refusal { number: 7, rule };
+        return Refusal { refusal: 7, rule };
     }
     let live = live::all_live(image);
     if !live {
         return Refusal {
-            number: 15,
+            refusal: 15,
             rule: 0,
         };
     }
-    Refusal { number: 0, rule: 0 }
+    Refusal {
+        refusal: 0,
+        rule: 0,
+    }
 }

@@ -63,7 +63,7 @@ module _ (b w : List ℕ) where
 
   module _ (k m : ℕ) (table room : List ℕ) (r : Paged) (table′ room′ : List ℕ) (p : PageIs b w k m table room r table′ room′) where
     pub page-most : r .written ≤ m
-    page-most = elim (ℕ-discrete (r .number) 0) [ yes z ↦ omega (arith, p .answered z) | no z ↦ omega (arith, p .refused z) ]
+    page-most = elim (ℕ-discrete (r .refusal) 0) [ yes z ↦ omega (arith, p .answered z) | no z ↦ omega (arith, p .refused z) ]
 
     module _ (image : Accepted b) (few : length w ≤ mostEvents) (fits : tableWords (decode b .symbols) (length w) ≤ length table)
         (space : m * W ≤ length room) (small : k < limit) where
@@ -76,10 +76,10 @@ module _ (b w : List ℕ) where
           (pass space none)
 
       -- past the refusals on the lent memory those on the number decide
-      decided : (n : ℕ) → First (numberRows k many) n → r .number ≡ n
-      decided n q = first-only (p .number) (past-zero (lentRows b (length w) (length table) (m * W) (length room)) (numberRows k many) (omega arith) 0 refl passes q)
+      decided : (n : ℕ) → First (numberRows k many) n → r .refusal ≡ n
+      decided n q = first-only (p .refusal) (past-zero (lentRows b (length w) (length table) (m * W) (length room)) (numberRows k many) (omega arith) 0 refl passes q)
 
-      answer : ((k < many) × (r .number ≡ 0)) ⊎ ((many ≤ k) × (r .number ≡ 12))
+      answer : ((k < many) × (r .refusal ≡ 0)) ⊎ ((many ≤ k) × (r .refusal ≡ 12))
       answer =
           ⊎-elim (λ (h : k < many). inl (h, decided 0 (numbered k (held many) many refl (λ z. omega arith) (omega arith))))
           (λ (h : many ≤ k). inr (h, decided 12 (twelve k (held many) many refl (λ z. omega arith) (omega arith) (omega arith))))
@@ -92,7 +92,7 @@ module _ (b w : List ℕ) where
   -- ---- the first page
   module _ (table room : List ℕ) (r : Paged) (table′ room′ : List ℕ) (p : PageIs b w 0 mostListed table room r table′ room′)
       (image : Accepted b) (few : length w ≤ mostEvents) (fits : tableWords (decode b .symbols) (length w) ≤ length table) (space : mostListed * W ≤ length room) where
-    some : ((0 < many) × (r .number ≡ 0)) ⊎ ((many ≤ 0) × (r .number ≡ 12))
+    some : ((0 < many) × (r .refusal ≡ 0)) ⊎ ((many ≤ 0) × (r .refusal ≡ 12))
     some = answer 0 mostListed table room r table′ room′ p image few fits space (omega arith)
 
     count : r .written ≡ min mostListed many

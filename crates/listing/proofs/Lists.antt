@@ -107,12 +107,12 @@ module _ (g h : Bool) (b e out : List ℕ) where
 
 -- ---- one outcome only
 pub listing-only : (b e o u : List ℕ) → ListingIs b e o → ListingIs b e u → o ≡ u
-listing-only b e o u p q = go (ℕ-discrete (p .number) 0)
+listing-only b e o u p q = go (ℕ-discrete (p .refusal) 0)
   where
-    s : p .number ≡ q .number
+    s : p .refusal ≡ q .refusal
     s = first-only (p .first) (q .first)
 
-    go : Dec (p .number ≡ 0) → o ≡ u
+    go : Dec (p .refusal ≡ 0) → o ≡ u
     go (yes z) = p .listed z ∙ sym (q .listed (sym s ∙ z))
     go (no z) = p .refused z ∙ ap₂ refusedLine s (names-same s (p .names) (q .names)) ∙ sym (q .refused (λ f. z (s ∙ f)))
 

@@ -31,10 +31,10 @@ module _ (b e o : List ℕ) where
 
   long-image : longestImage < length b → ListingIs d e o → ListingIs b e o
   long-image l p = record {
-    number = p .number;
+    refusal = p .refusal;
     rule = p .rule;
-    first = first-hit (imageRows b) (fileRows b e) some (begins-alike d b (p .number) (omega (arith, size)) l (λ k h. getD-take (longestImage + 1) b k 0 (omega arith)) own);
-    names = long-names d (p .number) (p .rule) (omega (arith, size)) own (p .names);
+    first = first-hit (imageRows b) (fileRows b e) some (begins-alike d b (p .refusal) (omega (arith, size)) l (λ k h. getD-take (longestImage + 1) b k 0 (omega arith)) own);
+    names = long-names d (p .refusal) (p .rule) (omega (arith, size)) own (p .names);
     refused = p .refused;
     listed = λ z. absurd (some z);
   }
@@ -45,20 +45,20 @@ module _ (b e o : List ℕ) where
       bad : AllHold (imageRows d) → ⊥
       bad h = omega (arith, accepted-short d (holding d h), size)
 
-      own : First (imageRows d) (p .number)
-      own = alone (imageRows d) (fileRows d e) (p .number) bad (p .first)
+      own : First (imageRows d) (p .refusal)
+      own = alone (imageRows d) (fileRows d e) (p .refusal) bad (p .first)
 
-      some : p .number ≢ 0
-      some z = bad (all-hold (imageRows d) (omega arith) (p .number) z own)
+      some : p .refusal ≢ 0
+      some z = bad (all-hold (imageRows d) (omega arith) (p .refusal) z own)
 
   long-events : mostEventBytes < length e → ListingIs b f o → ListingIs b e o
   long-events l p = record {
-    number = p .number;
+    refusal = p .refusal;
     rule = p .rule;
-    first = behind (imageRows b) (fileRows b f) (fileRows b e) (p .number) (⊎-elim (λ x. inl (λ h. omega arith, x .1)) (λ x. absurd (omega (arith, x .0, size)))) (p .first);
+    first = behind (imageRows b) (fileRows b f) (fileRows b e) (p .refusal) (⊎-elim (λ x. inl (λ h. omega arith, x .1)) (λ x. absurd (omega (arith, x .0, size)))) (p .first);
     names = p .names;
     refused = p .refused;
-    listed = λ z. absurd (omega (arith, passed b f (p .number) z (p .first) .bytes, size));
+    listed = λ z. absurd (omega (arith, passed b f (p .refusal) z (p .first) .bytes, size));
   }
     where
       size : length f ≡ mostEventBytes + 1

@@ -42,11 +42,11 @@ programRows b e = imageRows b ++ fileRows b e
 
 -- ---- what is written, as bytes: the letters of the words, 32 for a space and 10 for the newline
 -- the numbers that tell a refusal: its own and, with 6 and 7, that of the rule
-abbrev pub refusedWords : (number rule : ℕ) → List ℕ
+abbrev pub refusedWords : (refusal rule : ℕ) → List ℕ
 refusedWords n r = n ∷ cond (eqb n 6) (r ∷ []) (cond (eqb n 7) (r ∷ []) [])
 
 -- "refused ", and these numbers parted by one space
-abbrev pub refusedLine : (number rule : ℕ) → List ℕ
+abbrev pub refusedLine : (refusal rule : ℕ) → List ℕ
 refusedLine n r = (114 ∷ 101 ∷ 102 ∷ 117 ∷ 115 ∷ 101 ∷ 100 ∷ 32 ∷ []) ++ line (refusedWords n r)
 
 -- " or more" after a total at the limit
@@ -68,12 +68,12 @@ listing g w = heading (held (howMany g w)) ++ lines (take mostListed (scripts g 
 
 -- ---- of two files that were read: out is what is written
 pub record ListingIs (b e out : List ℕ) : Type 0 where
-  pub number : ℕ
+  pub refusal : ℕ
   pub rule : ℕ
-  pub first : First (programRows b e) number
-  pub names : Names (decode b) number rule
-  pub refused : number ≢ 0 → out ≡ refusedLine number rule
-  pub listed : number ≡ 0 → out ≡ listing (decode b) (words e)
+  pub first : First (programRows b e) refusal
+  pub names : Names (decode b) refusal rule
+  pub refused : refusal ≢ 0 → out ≡ refusedLine refusal rule
+  pub listed : refusal ≡ 0 → out ≡ listing (decode b) (words e)
 
 -- ---- all of it: of each file whether it could be opened and read, and its bytes, which count only where both could be
 -- "no file"

@@ -32,25 +32,25 @@ pub const IMAGE_BYTES: usize = image::LONGEST_IMAGE + 1;
 pub const EVENT_BYTES: usize = 2 * image::MOST_EVENTS + 1;
 
 // How many numbers tell a refusal: 6 and 7 name a rule.
-fn told(number: u8) -> usize
-    ensures { λ r. ⌜ (r ≤ 2) × ((rule : ℕ) → take r (number ∷ rule ∷ []) ≡ refusedWords number rule) ⌝ }
+fn told(refusal: u8) -> usize
+    ensures { λ r. ⌜ (r ≤ 2) × ((rule : ℕ) → take r (refusal ∷ rule ∷ []) ≡ refusedWords refusal rule) ⌝ }
 {
-    if number == 6 {
+    if refusal == 6 {
         return 2;
     }
-    if number == 7 {
+    if refusal == 7 {
         return 2;
     }
     1
 }
 
-fn write_refused(out: &mut [u8], number: u8, rule: u16) -> usize
+fn write_refused(out: &mut [u8], refusal: u8, rule: u16) -> usize
     requires { ⌜ 64 ≤ length (now out) ⌝ }
-    ensures { λ r. ⌜ (r ≤ length (now (out .exit))) × Put (refusedLine number rule) (now (out .entry)) 0 r (now (out .exit)) ⌝ }
+    ensures { λ r. ⌜ (r ≤ length (now (out .exit))) × Put (refusedLine refusal rule) (now (out .entry)) 0 r (now (out .exit)) ⌝ }
 {
     let behind = text::put_bytes(out, 0, b"refused ");
-    let words = [number as u16, rule];
-    let n = told(number);
+    let words = [refusal as u16, rule];
+    let n = told(refusal);
     text::put_line(out, behind, &words[..n])
 }
 
@@ -69,8 +69,8 @@ fn write_heading(out: &mut [u8], total: u32) -> usize
     ensures { λ r. ⌜ (r ≤ 28) × Put (heading total) (now (out .entry)) 0 r (now (out .exit)) ⌝ }
 {
     let behind = text::put_bytes(out, 0, b"readings ");
-    let number = text::put_number(out, behind, total);
-    let end = put_or_more(out, number, total);
+    let digits = text::put_number(out, behind, total);
+    let end = put_or_more(out, digits, total);
     text::put_byte(out, end, b'\n')
 }
 
@@ -96,10 +96,10 @@ fn write_listing(image: &[u8], events: &[u8], out: &mut [u8]) -> usize
     ensures { λ r. ⌜ (r ≤ length (now (out .exit))) × ListingIs (now (image .entry)) (now (events .entry)) (take r (now (out .exit)))
         × (drop r (now (out .exit)) ≡ drop r (now (out .entry))) ⌝ }
 {
-    let refusal = refuse::program_refusal(image, events);
-    let number = refusal.number;
-    if number != 0 {
-        return write_refused(out, number, refusal.rule);
+    let early = refuse::program_refusal(image, events);
+    let refusal = early.refusal;
+    if refusal != 0 {
+        return write_refused(out, refusal, early.rule);
     }
     let mut room = [0u16; image::MOST_EVENTS];
     let n = text::read_words(events, &mut room);

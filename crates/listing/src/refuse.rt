@@ -9,29 +9,35 @@ pub fn program_refusal(image: &[u8], events: &[u8]) -> Refusal
     ensures { λ r. ⌜ RefusalIs (programRows (now (image .entry)) (now (events .entry))) (decode (now (image .entry))) r ⌝ }
 {
     let tested = image::test_image(image);
-    let number = tested.number;
-    if number != 0 {
+    let refusal = tested.refusal;
+    if refusal != 0 {
         return Refusal {
-            number,
+            refusal,
             rule: tested.rule,
         };
     }
     let size = events.len();
     if 2 * image::MOST_EVENTS < size {
-        return Refusal { number: 8, rule: 0 };
+        return Refusal {
+            refusal: 8,
+            rule: 0,
+        };
     }
     if size % 2 != 0 {
         return Refusal {
-            number: 14,
+            refusal: 14,
             rule: 0,
         };
     }
     let need = table::words_needed(tested.symbols, size / 2);
     if super::TABLE_WORDS < need {
         return Refusal {
-            number: 10,
+            refusal: 10,
             rule: 0,
         };
     }
-    Refusal { number: 0, rule: 0 }
+    Refusal {
+        refusal: 0,
+        rule: 0,
+    }
 }

@@ -39,17 +39,17 @@ count-first b n size c = past-zero (recordRows b n) (tableRows b n size) (omega 
 lent-first : (b : List ℕ) (n size need space : ℕ) → Lendable b n size need space → First (lentRows b n size need space) 0
 lent-first b n size need space c = past-zero (countRows b n size) (roomRows need space) (omega arith) 0 refl (count-first b n size (c .count)) (pass (c .fits) none)
 
-pub check-exactly : (b w s : List ℕ) (r : Checked) → CheckIs b w s r → Exactly (r .number ≡ 0) (Accepted b × (length w ≤ mostEvents))
+pub check-exactly : (b w s : List ℕ) (r : Checked) → CheckIs b w s r → Exactly (r .refusal ≡ 0) (Accepted b × (length w ≤ mostEvents))
 check-exactly b w s r p = record {
-  only = λ e. record-holding b (length w) (all-hold (recordRows b (length w)) (omega arith) _ e (p .number));
-  whenever = λ h. first-only (p .number) (record-first b (length w) (h .0) (h .1));
+  only = λ e. record-holding b (length w) (all-hold (recordRows b (length w)) (omega arith) _ e (p .refusal));
+  whenever = λ h. first-only (p .refusal) (record-first b (length w) (h .0) (h .1));
 }
 
 pub count-exactly : (b w before : List ℕ) (r : Counted) (after : List ℕ) → CountIs b w before r after
-    → Exactly (r .number ≡ 0) (Countable b (length w) (length before))
+    → Exactly (r .refusal ≡ 0) (Countable b (length w) (length before))
 count-exactly b w before r after p = record {
-  only = λ e. count-ok b (length w) (length before) _ e (p .number);
-  whenever = λ c. first-only (p .number) (count-first b (length w) (length before) c);
+  only = λ e. count-ok b (length w) (length before) _ e (p .refusal);
+  whenever = λ c. first-only (p .refusal) (count-first b (length w) (length before) c);
 }
 
 -- of a reading and of a page: so many words are needed
@@ -68,20 +68,20 @@ module _ (b w : List ℕ) (k size need space : ℕ) (small : k ≤ limit) {n : �
   }
 
 pub reading-exactly : (b w : List ℕ) (k : ℕ) (table room : List ℕ) (r : Read) (table′ room′ : List ℕ) → k ≤ limit → ReadingIs b w k table room r table′ room′
-    → Exactly (r .number ≡ 0) (Lendable b (length w) (length table) (scriptWords (length w)) (length room) × Numbered k (howMany (decode b) w))
-reading-exactly b w k table room r t o l p = numbered-exactly b w k (length table) (scriptWords (length w)) (length room) l (p .number)
+    → Exactly (r .refusal ≡ 0) (Lendable b (length w) (length table) (scriptWords (length w)) (length room) × Numbered k (howMany (decode b) w))
+reading-exactly b w k table room r t o l p = numbered-exactly b w k (length table) (scriptWords (length w)) (length room) l (p .refusal)
 
 pub page-exactly : (b w : List ℕ) (k m : ℕ) (table room : List ℕ) (r : Paged) (table′ room′ : List ℕ) → k ≤ limit → PageIs b w k m table room r table′ room′
-    → Exactly (r .number ≡ 0) (Lendable b (length w) (length table) (m * scriptWords (length w)) (length room) × Numbered k (howMany (decode b) w))
-page-exactly b w k m table room r t o l p = numbered-exactly b w k (length table) (m * scriptWords (length w)) (length room) l (p .number)
+    → Exactly (r .refusal ≡ 0) (Lendable b (length w) (length table) (m * scriptWords (length w)) (length room) × Numbered k (howMany (decode b) w))
+page-exactly b w k m table room r t o l p = numbered-exactly b w k (length table) (m * scriptWords (length w)) (length room) l (p .refusal)
 
 pub number-exactly : (b w s table : List ℕ) (r : Found) (table′ : List ℕ) → NumberIs b w s table r table′
-    → Exactly (r .number ≡ 0) (Countable b (length w) (length table) × (IsReading (decode b) w s × ((q : ℕ) → NumberOf (decode b) w s q → q < limit)))
+    → Exactly (r .refusal ≡ 0) (Countable b (length w) (length table) × (IsReading (decode b) w s × ((q : ℕ) → NumberOf (decode b) w s q → q < limit)))
 number-exactly b w s table r t p = record {
   only = λ e.
-      let q : First (countRows b (length w) (length table) ++ scriptRows (decode b) w s) 0 = rw e at (p .number) in
+      let q : First (countRows b (length w) (length table) ++ scriptRows (decode b) w s) 0 = rw e at (p .refusal) in
       let h = all-hold (scriptRows (decode b) w s) (omega arith) 0 refl (passed (countRows b (length w) (length table)) (scriptRows (decode b) w s) 0 (omega arith) q) in
       (count-ok b (length w) (length table) 0 refl (reached (countRows b (length w) (length table)) (scriptRows (decode b) w s) 0 (omega arith) q), (h .0, h .1 .0));
-  whenever = λ c. first-only (p .number) (past-zero (countRows b (length w) (length table)) (scriptRows (decode b) w s) (omega arith) 0 refl
+  whenever = λ c. first-only (p .refusal) (past-zero (countRows b (length w) (length table)) (scriptRows (decode b) w s) (omega arith) 0 refl
       (count-first b (length w) (length table) (c .0)) (pass (c .1 .0) (pass (c .1 .1) none)));
 }

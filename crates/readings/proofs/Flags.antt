@@ -77,17 +77,17 @@ module _ (b c : List ℕ) (q : ℕ) (e : decode c ≡ flagged q (decode b)) (x :
 
   pub check-flag : (s : List ℕ) (r : Checked) → CheckIs b w s r → CheckIs c w s r
   check-flag s r p = record {
-    number = rows-flagged b c x y (eventRows (length w)) (r .number) (p .number);
-    rule = names-flagged b c x y (eventRows (length w)) (r .number) (p .number) (omega arith) (omega arith) (p .rule);
+    refusal = rows-flagged b c x y (eventRows (length w)) (r .refusal) (p .refusal);
+    rule = names-flagged b c x y (eventRows (length w)) (r .refusal) (p .refusal) (omega arith) (omega arith) (p .rule);
     refused = p .refused;
     answered = λ z. subst⁻¹ (λ (h : Grammar). Decides (r .yes) (IsReading h w s)) e (decides-as (r .yes) (reading-flagged q (decode b) w some s) (flagged-reading q (decode b) w some s) (p .answered z));
   }
 
   pub count-flag : (before : List ℕ) (r : Counted) (after : List ℕ) → CountIs b w before r after → CountIs c w before r after
   count-flag before r after p = record {
-    number = subst⁻¹ (λ (N : ℕ). First (imageRows c ++ (eventRows (length w) ++ ((10 unless (tableWords N (length w) ≤ length before)) ∷ []))) (r .number)) symbols
-        (rows-flagged b c x y (eventRows (length w) ++ tableRows b (length w) (length before)) (r .number) (p .number));
-    rule = names-flagged b c x y (eventRows (length w) ++ tableRows b (length w) (length before)) (r .number) (p .number) (omega arith) (omega arith) (p .rule);
+    refusal = subst⁻¹ (λ (N : ℕ). First (imageRows c ++ (eventRows (length w) ++ ((10 unless (tableWords N (length w) ≤ length before)) ∷ []))) (r .refusal)) symbols
+        (rows-flagged b c x y (eventRows (length w) ++ tableRows b (length w) (length before)) (r .refusal) (p .refusal));
+    rule = names-flagged b c x y (eventRows (length w) ++ tableRows b (length w) (length before)) (r .refusal) (p .refusal) (omega arith) (omega arith) (p .rule);
     refused = p .refused;
     answered = λ z. record { total = p .answered z .total ∙ ap held (sym many); table = filled before after (p .answered z .table) };
   }
@@ -103,9 +103,9 @@ module _ (b c : List ℕ) (q : ℕ) (e : decode c ≡ flagged q (decode b)) (x :
 
   pub reading-flag : (k : ℕ) (table room : List ℕ) (r : Read) (table′ room′ : List ℕ) → ReadingIs b w k table room r table′ room′ → ReadingIs c w k table room r table′ room′
   reading-flag k table room r t o p = record {
-    number = numbered-rows k (length table) (scriptWords (length w)) (length room) (r .number) (r .rule) (p .number);
-    rule = names-flagged b c x y (eventRows (length w) ++ (tableRows b (length w) (length table) ++ (roomRows (scriptWords (length w)) (length room) ++ numberRows k (howMany (decode b) w)))) (r .number)
-        (p .number) (omega arith) (omega arith) (p .rule);
+    refusal = numbered-rows k (length table) (scriptWords (length w)) (length room) (r .refusal) (r .rule) (p .refusal);
+    rule = names-flagged b c x y (eventRows (length w) ++ (tableRows b (length w) (length table) ++ (roomRows (scriptWords (length w)) (length room) ++ numberRows k (howMany (decode b) w)))) (r .refusal)
+        (p .refusal) (omega arith) (omega arith) (p .rule);
     filled = λ z. filled table t (p .filled z);
     kept = p .kept;
     written = λ z. subst⁻¹ (λ (l : List Reading). o ≡ spelling (getD l k quiet) ++ drop (scriptWords (length w)) room) list (p .written z);
@@ -115,9 +115,9 @@ module _ (b c : List ℕ) (q : ℕ) (e : decode c ≡ flagged q (decode b)) (x :
   pub page-flag : (k m : ℕ) (table room : List ℕ) (r : Paged) (table′ room′ : List ℕ) → PageIs b w k m table room r table′ room′ → PageIs c w k m table room r table′ room′
   unfolding pageOf
   page-flag k m table room r t o p = record {
-    number = numbered-rows k (length table) (m * scriptWords (length w)) (length room) (r .number) (r .rule) (p .number);
-    rule = names-flagged b c x y (eventRows (length w) ++ (tableRows b (length w) (length table) ++ (roomRows (m * scriptWords (length w)) (length room) ++ numberRows k (howMany (decode b) w)))) (r .number)
-        (p .number) (omega arith) (omega arith) (p .rule);
+    refusal = numbered-rows k (length table) (m * scriptWords (length w)) (length room) (r .refusal) (r .rule) (p .refusal);
+    rule = names-flagged b c x y (eventRows (length w) ++ (tableRows b (length w) (length table) ++ (roomRows (m * scriptWords (length w)) (length room) ++ numberRows k (howMany (decode b) w)))) (r .refusal)
+        (p .refusal) (omega arith) (omega arith) (p .rule);
     filled = λ z. filled table t (p .filled z);
     kept = p .kept;
     answered = λ z. p .answered z ∙ ap (onPage k m) (sym many);
@@ -131,12 +131,12 @@ module _ (b c : List ℕ) (q : ℕ) (e : decode c ≡ flagged q (decode b)) (x :
 
   pub number-flag : (s table : List ℕ) (r : Found) (table′ : List ℕ) → NumberIs b w s table r table′ → NumberIs c w s table r table′
   number-flag s table r t p = record {
-    number = subst⁻¹ (λ (N : ℕ). First (imageRows c ++ (eventRows (length w) ++ (((10 unless (tableWords N (length w) ≤ length table)) ∷ []) ++ scriptRows (decode c) w s))) (r .number)) symbols
-        (subst⁻¹ (λ (h : Grammar). First (imageRows c ++ (eventRows (length w) ++ (tableRows b (length w) (length table) ++ scriptRows h w s))) (r .number)) e
-        (behind (imageRows c ++ (eventRows (length w) ++ tableRows b (length w) (length table))) (scriptRows (decode b) w s) (scriptRows (flagged q (decode b)) w s) (r .number)
-        (script-rows q (decode b) w some s (r .number))
-        (rows-flagged b c x y (eventRows (length w) ++ (tableRows b (length w) (length table) ++ scriptRows (decode b) w s)) (r .number) (p .number))));
-    rule = names-flagged b c x y (eventRows (length w) ++ (tableRows b (length w) (length table) ++ scriptRows (decode b) w s)) (r .number) (p .number) (omega arith) (omega arith) (p .rule);
+    refusal = subst⁻¹ (λ (N : ℕ). First (imageRows c ++ (eventRows (length w) ++ (((10 unless (tableWords N (length w) ≤ length table)) ∷ []) ++ scriptRows (decode c) w s))) (r .refusal)) symbols
+        (subst⁻¹ (λ (h : Grammar). First (imageRows c ++ (eventRows (length w) ++ (tableRows b (length w) (length table) ++ scriptRows h w s))) (r .refusal)) e
+        (behind (imageRows c ++ (eventRows (length w) ++ tableRows b (length w) (length table))) (scriptRows (decode b) w s) (scriptRows (flagged q (decode b)) w s) (r .refusal)
+        (script-rows q (decode b) w some s (r .refusal))
+        (rows-flagged b c x y (eventRows (length w) ++ (tableRows b (length w) (length table) ++ scriptRows (decode b) w s)) (r .refusal) (p .refusal))));
+    rule = names-flagged b c x y (eventRows (length w) ++ (tableRows b (length w) (length table) ++ scriptRows (decode b) w s)) (r .refusal) (p .refusal) (omega arith) (omega arith) (p .rule);
     filled = λ z. filled table t (p .filled z);
     kept = p .kept;
     answered = λ z. subst⁻¹ (λ (h : Grammar). NumberOf h w s (r .reading)) e (number-flagged q (decode b) w some s (r .reading) (p .answered z));

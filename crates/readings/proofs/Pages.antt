@@ -42,9 +42,9 @@ page-fits k m many t c n space e a b h few fits =
 
 -- ---- a page of one is a reading
 pub page-of-one : (b w : List ℕ) (k : ℕ) (table room : List ℕ) (r : Paged) (t o : List ℕ) → k ≤ limit → PageIs b w k 1 table room r t o
-    → ReadingIs b w k table room (record { number = r .number; rule = r .rule }) t o
+    → ReadingIs b w k table room (record { refusal = r .refusal; rule = r .rule }) t o
 page-of-one b w k table room r t o small p = record {
-  number = number;
+  refusal = number;
   rule = p .rule;
   filled = p .filled;
   kept = p .kept;
@@ -52,11 +52,11 @@ page-of-one b w k table room r t o small p = record {
   unwritten = p .unwritten;
 }
   where
-    number : First (readingRows b w k table room) (r .number)
-    number = rw one-mul at (p .number)
+    number : First (readingRows b w k table room) (r .refusal)
+    number = rw one-mul at (p .refusal)
 
     -- a number that is answered is below the count and the limit, so that one is left
-    one : r .number ≡ 0 → r .written ≡ 1
+    one : r .refusal ≡ 0 → r .written ≡ 1
     one z =
         let n = number-ok k _ 0 refl (passed (lentRows b (length w) (length table) (scriptWords (length w)) (length room)) (numberRows k (howMany (decode b) w)) 0 (omega arith) (rw z at number)) small in
         let e = p .answered z in
@@ -80,7 +80,7 @@ module _ (b w : List ℕ) where
     first : (k < many) × (k < limit)
     first =
         number-ok k _ 0 refl
-        (passed (lentRows b (length w) (length (a .table)) (m * scriptWords (length w)) (length (a .room))) (numberRows k many) 0 (omega arith) (rw (a .success) at (a .is .number)))
+        (passed (lentRows b (length w) (length (a .table)) (m * scriptWords (length w)) (length (a .room))) (numberRows k many) 0 (omega arith) (rw (a .success) at (a .is .refusal)))
         (a .small)
 
     size : c ≡ onPage k m many
@@ -97,23 +97,23 @@ module _ (b w : List ℕ) where
         ap (λ (l : List ℕ). take (scriptWords (length w)) (drop (x * scriptWords (length w)) l)) (rw (a .told) at (a .is .written (a .success)))
         ∙ page-at (decode b) w k c x _ (omega arith) h ∙ gave-number b w (k + x) v g .spelt
 
-    behind : c < m → (table room : List ℕ) (r : Read) (t v : List ℕ) → ReadingIs b w (k + c) table room r t v → r .number ≡ 0 → ⊥
+    behind : c < m → (table room : List ℕ) (r : Read) (t v : List ℕ) → ReadingIs b w (k + c) table room r t v → r .refusal ≡ 0 → ⊥
     behind h table room r t v p z =
         let f = first in
         let e = size in
         let n = number-ok (k + c) _ 0 refl
-        (passed (lentRows b (length w) (length table) (scriptWords (length w)) (length room)) (numberRows (k + c) many) 0 (omega arith) (rw z at (p .number))) (omega arith) in
+        (passed (lentRows b (length w) (length table) (scriptWords (length w)) (length room)) (numberRows (k + c) many) 0 (omega arith) (rw z at (p .refusal))) (omega arith) in
         omega (arith, n .0, n .1)
 
   alike : (k m : ℕ) (table room : List ℕ) (r : Paged) (t o table₁ room₁ : List ℕ) (s : Read) (u v : List ℕ)
       → First (lentRows b (length w) (length table) (m * scriptWords (length w)) (length room)) 0 → ReadingPasses b w table₁ room₁
-      → PageIs b w k m table room r t o → ReadingIs b w k table₁ room₁ s u v → r .number ≡ s .number
+      → PageIs b w k m table room r t o → ReadingIs b w k table₁ room₁ s u v → r .refusal ≡ s .refusal
   alike k m table room r t o table₁ room₁ s u v f g p q =
-      first-only (p .number)
+      first-only (p .refusal)
       (past-zero (lentRows b (length w) (length table) (m * scriptWords (length w)) (length room)) _ (omega arith) 0 refl f late)
     where
-      late : First (numberRows k many) (s .number)
-      late = beyond (lentRows b (length w) (length table₁) (scriptWords (length w)) (length room₁)) _ (s .number) (all-hold _ (omega arith) 0 refl g) (q .number)
+      late : First (numberRows k many) (s .refusal)
+      late = beyond (lentRows b (length w) (length table₁) (scriptWords (length w)) (length room₁)) _ (s .refusal) (all-hold _ (omega arith) 0 refl g) (q .refusal)
 
   pub paging : Paging b w
   paging = record {

@@ -24,8 +24,8 @@ use Rattle.readings.proofs.Numbered.{gave-number, gave-small, each}
 -- a script with a number below the limit is answered, with that number
 module _ (b w s : List ℕ) (q : ℕ) (n : NumberOf (decode b) w s q) (l : q < limit) (table : List ℕ) (r : Found) (t : List ℕ)
     (f : First (countRows b (length w) (length table)) 0) (p : NumberIs b w s table r t) where
-  pub answers : r .number ≡ 0
-  answers = first-only (p .number) (past-zero (countRows b (length w) (length table)) _ (omega arith) 0 refl f (number-passes (decode b) w s q n l))
+  pub answers : r .refusal ≡ 0
+  answers = first-only (p .refusal) (past-zero (countRows b (length w) (length table)) _ (omega arith) 0 refl f (number-passes (decode b) w s q n l))
 
   pub answers-it : r .reading ≡ q
   answers-it = number-once (decode b) w s (r .reading) q (p .answered answers) n
@@ -37,7 +37,7 @@ module _ (b w : List ℕ) where
 
     told-small : q < limit
     told-small =
-        let late = passed (countRows b (length w) (length (a .table))) (scriptRows (decode b) w s) 0 (omega arith) (rw (a .success) at (a .is .number)) in
+        let late = passed (countRows b (length w) (length (a .table))) (scriptRows (decode b) w s) 0 (omega arith) (rw (a .success) at (a .is .refusal)) in
         all-hold (scriptRows (decode b) w s) (omega arith) 0 refl late .1 .0 q told-number
 
   pub undo : Undo b w
@@ -50,7 +50,7 @@ module _ (b w : List ℕ) where
 
 -- a quiet empty record has the empty script as its reading number 0
 pub quiet-zero : (b table : List ℕ) (r : Found) (t : List ℕ) → decode b .quiet ≡ 1 → First (countRows b 0 (length table)) 0 → NumberIs b [] [] table r t
-    → (r .number ≡ 0) × (r .reading ≡ 0)
+    → (r .refusal ≡ 0) × (r .reading ≡ 0)
 quiet-zero b table r t e f p = (answers b [] [] 0 zeroth (lit< tt) table r t f p, answers-it b [] [] 0 zeroth (lit< tt) table r t f p)
   where
     numbered : (q : ℕ) × NumberOf (decode b) [] [] q

@@ -14,7 +14,7 @@ use Rattle.image.specs.Image.{recordRows, Names}
 use Rattle.readings.specs.declared.Checked.{Checked}
 
 pub record CheckIs (b w s : List ℕ) (r : Checked) : Type 0 where
-  pub number : First (recordRows b (length w)) (r .number)
-  pub rule : Names (decode b) (r .number) (r .rule)
-  pub refused : r .number ≢ 0 → r .yes ≡ false
-  pub answered : r .number ≡ 0 → Decides (r .yes) (IsReading (decode b) w s)
+  pub refusal : First (recordRows b (length w)) (r .refusal)
+  pub rule : Names (decode b) (r .refusal) (r .rule)
+  pub refused : r .refusal ≢ 0 → r .yes ≡ false
+  pub answered : r .refusal ≡ 0 → Decides (r .yes) (IsReading (decode b) w s)

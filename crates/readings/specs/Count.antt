@@ -35,7 +35,7 @@ pub record Answered (g : Grammar) (w before : List ℕ) (r : Counted) (after : L
   pub table : Filled g w before after
 
 pub record CountIs (b w before : List ℕ) (r : Counted) (after : List ℕ) : Type 0 where
-  pub number : First (countRows b (length w) (length before)) (r .number)
-  pub rule : Names (decode b) (r .number) (r .rule)
-  pub refused : r .number ≢ 0 → Refused before r after
-  pub answered : r .number ≡ 0 → Answered (decode b) w before r after
+  pub refusal : First (countRows b (length w) (length before)) (r .refusal)
+  pub rule : Names (decode b) (r .refusal) (r .rule)
+  pub refused : r .refusal ≢ 0 → Refused before r after
+  pub answered : r .refusal ≡ 0 → Answered (decode b) w before r after

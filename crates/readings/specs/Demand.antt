@@ -20,7 +20,7 @@ pub record Gave (b w : List ℕ) (k : ℕ) (room′ : List ℕ) : Type 0 where
   pub r : Read
   pub table′ : List ℕ
   pub small : k ≤ limit
-  pub success : r .number ≡ 0
+  pub success : r .refusal ≡ 0
   pub is : ReadingIs b w k table room r table′ room′
 
 -- the words where the script stands
@@ -30,7 +30,7 @@ written w room′ = take (scriptWords (length w)) room′
 pub record OneToOne (b w : List ℕ) : Type 0 where
   -- where image, record and lent memory pass, every number below the count and below the limit is answered
   pub each : (k : ℕ) (table room : List ℕ) (r : Read) (t o : List ℕ) → ReadingPasses b w table room
-      → k < howMany (decode b) w → k < limit → ReadingIs b w k table room r t o → r .number ≡ 0
+      → k < howMany (decode b) w → k < limit → ReadingIs b w k table room r t o → r .refusal ≡ 0
   -- with the script of a reading
   pub reading : (k : ℕ) (o : List ℕ) → Gave b w k o → IsReading (decode b) w (written w o)
   -- no two numbers with the same one

@@ -21,9 +21,9 @@ abbrev pub scriptRows : Grammar → (w s : List ℕ) → List Row
 scriptRows g w s = (12 unless IsReading g w s) ∷ (13 unless ((q : ℕ) → NumberOf g w s q → q < limit)) ∷ []
 
 pub record NumberIs (b w s table : List ℕ) (r : Found) (table′ : List ℕ) : Type 0 where
-  pub number : First (countRows b (length w) (length table) ++ scriptRows (decode b) w s) (r .number)
-  pub rule : Names (decode b) (r .number) (r .rule)
-  pub filled : Fills (r .number) → Filled (decode b) w table table′
-  pub kept : (Fills (r .number) → ⊥) → table′ ≡ table
-  pub answered : r .number ≡ 0 → NumberOf (decode b) w s (r .reading)
-  pub refused : r .number ≢ 0 → r .reading ≡ 0
+  pub refusal : First (countRows b (length w) (length table) ++ scriptRows (decode b) w s) (r .refusal)
+  pub rule : Names (decode b) (r .refusal) (r .rule)
+  pub filled : Fills (r .refusal) → Filled (decode b) w table table′
+  pub kept : (Fills (r .refusal) → ⊥) → table′ ≡ table
+  pub answered : r .refusal ≡ 0 → NumberOf (decode b) w s (r .reading)
+  pub refused : r .refusal ≢ 0 → r .reading ≡ 0

@@ -24,12 +24,12 @@ abbrev pub onPage : (k m many : ℕ) → ℕ
 onPage k m many = min m (held many - k)
 
 pub record PageIs (b w : List ℕ) (k m : ℕ) (table room : List ℕ) (r : Paged) (table′ room′ : List ℕ) : Type 0 where
-  pub number : First (pageRows b w k m table room) (r .number)
-  pub rule : Names (decode b) (r .number) (r .rule)
-  pub filled : Fills (r .number) → Filled (decode b) w table table′
-  pub kept : (Fills (r .number) → ⊥) → table′ ≡ table
-  pub answered : r .number ≡ 0 → r .written ≡ onPage k m (howMany (decode b) w)
-  pub refused : r .number ≢ 0 → r .written ≡ 0
+  pub refusal : First (pageRows b w k m table room) (r .refusal)
+  pub rule : Names (decode b) (r .refusal) (r .rule)
+  pub filled : Fills (r .refusal) → Filled (decode b) w table table′
+  pub kept : (Fills (r .refusal) → ⊥) → table′ ≡ table
+  pub answered : r .refusal ≡ 0 → r .written ≡ onPage k m (howMany (decode b) w)
+  pub refused : r .refusal ≢ 0 → r .written ≡ 0
   -- the room begins with the scripts of so many readings from number k on, and the rest of it is as it was
-  pub written : r .number ≡ 0 → room′ ≡ pageOf (decode b) w k (r .written) ++ drop (r .written * scriptWords (length w)) room
-  pub unwritten : r .number ≢ 0 → room′ ≡ room
+  pub written : r .refusal ≡ 0 → room′ ≡ pageOf (decode b) w k (r .written) ++ drop (r .written * scriptWords (length w)) room
+  pub unwritten : r .refusal ≢ 0 → room′ ≡ room

@@ -44,10 +44,10 @@ abbrev pub Fills : ℕ → Type 0
 Fills n = (n ≡ 0) ⊎ ((n ≡ 12) ⊎ (n ≡ 13))
 
 pub record ReadingIs (b w : List ℕ) (k : ℕ) (table room : List ℕ) (r : Read) (table′ room′ : List ℕ) : Type 0 where
-  pub number : First (readingRows b w k table room) (r .number)
-  pub rule : Names (decode b) (r .number) (r .rule)
-  pub filled : Fills (r .number) → Filled (decode b) w table table′
-  pub kept : (Fills (r .number) → ⊥) → table′ ≡ table
+  pub refusal : First (readingRows b w k table room) (r .refusal)
+  pub rule : Names (decode b) (r .refusal) (r .rule)
+  pub filled : Fills (r .refusal) → Filled (decode b) w table table′
+  pub kept : (Fills (r .refusal) → ⊥) → table′ ≡ table
   -- the room begins with the script of reading k, and the rest of it is as it was
-  pub written : r .number ≡ 0 → room′ ≡ spelling (getD (readings (decode b) w) k quiet) ++ drop (scriptWords (length w)) room
-  pub unwritten : r .number ≢ 0 → room′ ≡ room
+  pub written : r .refusal ≡ 0 → room′ ≡ spelling (getD (readings (decode b) w) k quiet) ++ drop (scriptWords (length w)) room
+  pub unwritten : r .refusal ≢ 0 → room′ ≡ room

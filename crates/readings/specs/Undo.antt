@@ -17,7 +17,7 @@ pub record Told (b w s : List ℕ) (q : ℕ) : Type 0 where
   pub table : List ℕ
   pub r : Found
   pub table′ : List ℕ
-  pub success : r .number ≡ 0
+  pub success : r .refusal ≡ 0
   pub told : r .reading ≡ q
   pub is : NumberIs b w s table r table′
 
@@ -28,6 +28,6 @@ pub record Undo (b w : List ℕ) : Type 0 where
   pub forth : (q : ℕ) (s o : List ℕ) → Told b w s q → Gave b w q o → written w o ≡ s
   -- where the one has answered, the other does too, if the memory lent to it is long enough
   pub told : (k : ℕ) (o : List ℕ) → Gave b w k o → (table : List ℕ) (r : Found) (t : List ℕ) → First (countRows b (length w) (length table)) 0
-      → NumberIs b w (written w o) table r t → r .number ≡ 0
+      → NumberIs b w (written w o) table r t → r .refusal ≡ 0
   pub given : (q : ℕ) (s : List ℕ) → Told b w s q → (table room : List ℕ) (r : Read) (t o : List ℕ) → ReadingPasses b w table room
-      → ReadingIs b w q table room r t o → r .number ≡ 0
+      → ReadingIs b w q table room r t o → r .refusal ≡ 0

@@ -12,34 +12,34 @@ ghost use Rattle.readings.specs.Number.{NumberIs};
 
 // What counting answers: a refusal with 0, or 0 with the number of readings, held at the limit. The rule is that of 6 and 7, else 0.
 pub struct Counted {
-    pub number: u8,
+    pub refusal: u8,
     pub rule: u16,
     pub total: u32,
 }
 
 // What a reading answers: a refusal, or 0.
 pub struct Read {
-    pub number: u8,
+    pub refusal: u8,
     pub rule: u16,
 }
 
 // What a page answers: a refusal with 0, or 0 with the number of scripts written.
 pub struct Paged {
-    pub number: u8,
+    pub refusal: u8,
     pub rule: u16,
     pub written: u32,
 }
 
 // What checking answers: a refusal with no, or 0 with yes or no.
 pub struct Checked {
-    pub number: u8,
+    pub refusal: u8,
     pub rule: u16,
     pub yes: bool,
 }
 
 // What the number of a script answers: a refusal with 0, or 0 with the number of the reading.
 pub struct Found {
-    pub number: u8,
+    pub refusal: u8,
     pub rule: u16,
     pub reading: u32,
 }
@@ -49,19 +49,19 @@ pub fn count(image: &[u8], events: &[u16], table: &mut [u32]) -> Counted
     ensures { λ r. ⌜ CountIs (now (image .entry)) (now (events .entry)) (now (table .entry)) r (now (table .exit)) ⌝ }
 {
     let n = events.len();
-    let refusal = refuse::count_refusal(image, n, table.len());
-    let number = refusal.number;
-    if number != 0 {
+    let early = refuse::count_refusal(image, n, table.len());
+    let refusal = early.refusal;
+    if refusal != 0 {
         return Counted {
-            number,
-            rule: refusal.rule,
+            refusal,
+            rule: early.rule,
             total: 0,
         };
     }
     table::fill_table(image, events, table);
     let total = table::total_in(image, events, table);
     Counted {
-        number: 0,
+        refusal: 0,
         rule: 0,
         total,
     }
@@ -93,10 +93,10 @@ pub fn page(
 {
     let n = events.len();
     let lent = refuse::lent_refusal(image, n, table.len(), m, room.len());
-    let number = lent.number;
-    if number != 0 {
+    let refusal = lent.refusal;
+    if refusal != 0 {
         return Paged {
-            number,
+            refusal,
             rule: lent.rule,
             written: 0,
         };
@@ -106,7 +106,7 @@ pub fn page(
     let late = refuse::number_refusal(k, total);
     if late != 0 {
         return Paged {
-            number: late,
+            refusal: late,
             rule: 0,
             written: 0,
         };
@@ -114,7 +114,7 @@ pub fn page(
     let written = page_size(k, m, total);
     pages::write_page(image, events, table, k, written, room);
     Paged {
-        number: 0,
+        refusal: 0,
         rule: 0,
         written,
     }
@@ -127,7 +127,7 @@ pub fn reading(image: &[u8], events: &[u16], k: u32, table: &mut [u32], room: &m
 {
     let paged = page(image, events, k, 1, table, room);
     Read {
-        number: paged.number,
+        refusal: paged.refusal,
         rule: paged.rule,
     }
 }
@@ -137,17 +137,17 @@ pub fn check(image: &[u8], events: &[u16], script: &[u16]) -> Checked
     ensures { λ r. ⌜ CheckIs (now (image .entry)) (now (events .entry)) (now (script .entry)) r ⌝ }
 {
     let tested = image::test_record(image, events.len());
-    let number = tested.number;
-    if number != 0 {
+    let refusal = tested.refusal;
+    if refusal != 0 {
         return Checked {
-            number,
+            refusal,
             rule: tested.rule,
             yes: false,
         };
     }
     let yes = follow::is_reading(image, events, script);
     Checked {
-        number: 0,
+        refusal: 0,
         rule: 0,
         yes,
     }
@@ -159,10 +159,10 @@ pub fn number(image: &[u8], events: &[u16], script: &[u16], table: &mut [u32]) -
 {
     let n = events.len();
     let refused = refuse::count_refusal(image, n, table.len());
-    let number = refused.number;
-    if number != 0 {
+    let refusal = refused.refusal;
+    if refusal != 0 {
         return Found {
-            number,
+            refusal,
             rule: refused.rule,
             reading: 0,
         };
@@ -170,7 +170,7 @@ pub fn number(image: &[u8], events: &[u16], script: &[u16], table: &mut [u32]) -
     table::fill_table(image, events, table);
     if !follow::is_reading(image, events, script) {
         return Found {
-            number: 12,
+            refusal: 12,
             rule: 0,
             reading: 0,
         };
@@ -178,13 +178,13 @@ pub fn number(image: &[u8], events: &[u16], script: &[u16], table: &mut [u32]) -
     let reading = rank::rank_reading(image, events, table, script);
     if reading == table::LIMIT {
         return Found {
-            number: 13,
+            refusal: 13,
             rule: 0,
             reading: 0,
         };
     }
     Found {
-        number: 0,
+        refusal: 0,
         rule: 0,
         reading,
     }

@@ -15,21 +15,24 @@ pub fn count_refusal(image: &[u8], n: usize, size: usize) -> Refusal
     ensures { λ r. ⌜ RefusalIs (countRows (now (image .entry)) n size) (decode (now (image .entry))) r ⌝ }
 {
     let tested = image::test_record(image, n);
-    let number = tested.number;
-    if number != 0 {
+    let refusal = tested.refusal;
+    if refusal != 0 {
         return Refusal {
-            number,
+            refusal,
             rule: tested.rule,
         };
     }
     let need = table::words_needed(tested.symbols, n);
     if size < need {
         return Refusal {
-            number: 10,
+            refusal: 10,
             rule: 0,
         };
     }
-    Refusal { number: 0, rule: 0 }
+    Refusal {
+        refusal: 0,
+        rule: 0,
+    }
 }
 
 // The refusals of the record, and then 10, and 11 for a room of m scripts, or 0.
@@ -37,18 +40,21 @@ pub fn lent_refusal(image: &[u8], n: usize, size: usize, m: u32, space: usize) -
     ensures { λ r. ⌜ RefusalIs (lentRows (now (image .entry)) n size (m * scriptWords n) space) (decode (now (image .entry))) r ⌝ }
 {
     let early = count_refusal(image, n, size);
-    let number = early.number;
-    if number != 0 {
+    let refusal = early.refusal;
+    if refusal != 0 {
         return early;
     }
     let need = m as usize * derivation::script_words(n);
     if space < need {
         return Refusal {
-            number: 11,
+            refusal: 11,
             rule: 0,
         };
     }
-    Refusal { number: 0, rule: 0 }
+    Refusal {
+        refusal: 0,
+        rule: 0,
+    }
 }
 
 // Refusals 12 and 13, or 0, where total is the true number of readings held at the limit.

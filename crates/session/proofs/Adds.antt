@@ -37,30 +37,30 @@ column-fits k h = before-mono k (mostAdded + 1) (omega arith)
 -- ---- what a refusal answers, and what success does
 module _ (b : List ℕ) (s : Session) (e : ℕ) (a : Added) where
   pub refusal : (n r : ℕ) → n ≢ 0 → First (addRows b s) n → Names (decode b) n r
-      → a ≡ record { session = s; firings = 0; rule = r; number = n; admitted = false } → AddIs b s e a
+      → a ≡ record { session = s; firings = 0; rule = r; refusal = n; admitted = false } → AddIs b s e a
   refusal n r z p q is = record {
-    number = subst⁻¹ (First (addRows b s)) (ap (λ (t : Added). t .number) is) p;
-    rule = subst⁻¹ (λ (t : Added). Names (decode b) (t .number) (t .rule)) is q;
+    refusal = subst⁻¹ (First (addRows b s)) (ap (λ (t : Added). t .refusal) is) p;
+    rule = subst⁻¹ (λ (t : Added). Names (decode b) (t .refusal) (t .rule)) is q;
     refused = λ _. record {
       session = ap (λ (t : Added). t .session) is;
       admitted = ap (λ (t : Added). t .admitted) is;
       firings = ap (λ (t : Added). t .firings) is;
     };
-    answered = λ y. absurd (z (ap (λ (t : Added). t .number) (sym is) ∙ y));
+    answered = λ y. absurd (z (ap (λ (t : Added). t .refusal) (sym is) ∙ y));
   }
 
-  pub success : a .number ≡ 0 → a .rule ≡ 0 → First (addRows b s) 0 → AddAnswered (decode b) s e a → AddIs b s e a
+  pub success : a .refusal ≡ 0 → a .rule ≡ 0 → First (addRows b s) 0 → AddAnswered (decode b) s e a → AddIs b s e a
   success z m p q = record {
-    number = subst⁻¹ (First (addRows b s)) z p;
+    refusal = subst⁻¹ (First (addRows b s)) z p;
     rule = names-before (omega arith) m;
     refused = λ y. absurd (y z);
     answered = λ _. q;
   }
 
 -- what an add with success tells of its image and its session
-module _ (b : List ℕ) (s : Session) (e : ℕ) (a : Added) (is : AddIs b s e a) (z : a .number ≡ 0) where
+module _ (b : List ℕ) (s : Session) (e : ℕ) (a : Added) (is : AddIs b s e a) (z : a .refusal ≡ 0) where
   first : First (addRows b s) 0
-  first = rw z at (is .number)
+  first = rw z at (is .refusal)
 
   pub image-accepted : Accepted b
   image-accepted = accepted b (reached (imageRows b) (countRows (s .count)) 0 (omega arith) first)
@@ -72,8 +72,8 @@ module _ (b : List ℕ) (s : Session) (e : ℕ) (a : Added) (is : AddIs b s e a)
 pub session-eq : (s t : Session) → s .chart ≡ t .chart → s .count ≡ t .count → s ≡ t
 session-eq s t c n = λ i. record { chart = c i; count = n i }
 
-added-eq : (a d : Added) → a .session ≡ d .session → a .firings ≡ d .firings → a .rule ≡ d .rule → a .number ≡ d .number → a .admitted ≡ d .admitted → a ≡ d
-added-eq a d s f r n v = λ i. record { session = s i; firings = f i; rule = r i; number = n i; admitted = v i }
+added-eq : (a d : Added) → a .session ≡ d .session → a .firings ≡ d .firings → a .rule ≡ d .rule → a .refusal ≡ d .refusal → a .admitted ≡ d .admitted → a ≡ d
+added-eq a d s f r n v = λ i. record { session = s i; firings = f i; rule = r i; refusal = n i; admitted = v i }
 
 module _ (g : Grammar) (s : Session) (e : ℕ) (a d : Added) (p : AddAnswered g s e a) (q : AddAnswered g s e d) where
   columns : ((y : ℕ) → getD (a .session .chart) y 0 ≡ getD (d .session .chart) y 0) × (a .firings ≡ d .firings)
@@ -86,20 +86,20 @@ module _ (g : Grammar) (s : Session) (e : ℕ) (a d : Added) (p : AddAnswered g 
   verdict-same = decides-only _ (a .admitted) (d .admitted) (p .admitted)
       (subst⁻¹ (λ (c : List ℕ). Decides (d .admitted) (bit (rd c 0 (s .count + 1)) 0 ≡ 1)) chart-same (q .admitted))
 
-  answered-only : a .rule ≡ d .rule → a .number ≡ d .number → a ≡ d
+  answered-only : a .rule ≡ d .rule → a .refusal ≡ d .refusal → a ≡ d
   answered-only r n = added-eq a d (session-eq _ _ chart-same (p .count ∙ sym (q .count))) (columns .1) r n verdict-same
 
 -- the answer, and every word of the session
 pub add-only : (b : List ℕ) (s : Session) (e : ℕ) (a d : Added) → AddIs b s e a → AddIs b s e d → a ≡ d
-add-only b s e a d p q = go (ℕ-discrete (a .number) 0)
+add-only b s e a d p q = go (ℕ-discrete (a .refusal) 0)
   where
-    n : a .number ≡ d .number
-    n = first-only (p .number) (q .number)
+    n : a .refusal ≡ d .refusal
+    n = first-only (p .refusal) (q .refusal)
 
     r : a .rule ≡ d .rule
     r = names-same n (p .rule) (q .rule)
 
-    go : Dec (a .number ≡ 0) → a ≡ d
+    go : Dec (a .refusal ≡ 0) → a ≡ d
     go (yes z) = answered-only (decode b) s e a d (p .answered z) (q .answered (sym n ∙ z)) r n
     go (no z) =
         let x = p .refused z in

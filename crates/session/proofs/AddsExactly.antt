@@ -20,10 +20,10 @@ use Rattle.session.specs.declared.Added.{Added}
 use Rattle.session.specs.Session.{mostAdded, countRows, AddAnswered, AddIs}
 use Rattle.session.proofs.Adds.{image-accepted, room-left}
 
-pub add-exactly : (b : List ℕ) (s : Session) (e : ℕ) (a : Added) → AddIs b s e a → Exactly (a .number ≡ 0) (Accepted b × (s .count < mostAdded))
+pub add-exactly : (b : List ℕ) (s : Session) (e : ℕ) (a : Added) → AddIs b s e a → Exactly (a .refusal ≡ 0) (Accepted b × (s .count < mostAdded))
 add-exactly b s e a p = record {
   only = λ z. (image-accepted b s e a p z, room-left b s e a p z);
-  whenever = λ h. first-only (p .number) (past-zero (imageRows b) (countRows (s .count)) (omega arith) 0 refl (accepted-back b (h .0)) (pass (h .1) none));
+  whenever = λ h. first-only (p .refusal) (past-zero (imageRows b) (countRows (s .count)) (omega arith) 0 refl (accepted-back b (h .0)) (pass (h .1) none));
 }
 
 answered-flagged : (q : ℕ) (g : Grammar) (s : Session) (e : ℕ) (a : Added) → AddAnswered g s e a → AddAnswered (flagged q g) s e a
@@ -41,8 +41,8 @@ answered-flagged q g s e a p = record {
 pub add-flag : (b c : List ℕ) (q : ℕ) → decode c ≡ flagged q (decode b) → Accepted b → Accepted c
     → (s : Session) (e : ℕ) (a : Added) → AddIs b s e a → AddIs c s e a
 add-flag b c q f x y s e a p = record {
-  number = rows-flagged b c x y (countRows (s .count)) (a .number) (p .number);
-  rule = names-flagged b c x y (countRows (s .count)) (a .number) (p .number) (omega arith) (omega arith) (p .rule);
+  refusal = rows-flagged b c x y (countRows (s .count)) (a .refusal) (p .refusal);
+  rule = names-flagged b c x y (countRows (s .count)) (a .refusal) (p .refusal) (omega arith) (omega arith) (p .rule);
   refused = p .refused;
   answered = λ z. subst (λ (h : Grammar). AddAnswered h s e a) (sym f) (answered-flagged q (decode b) s e a (p .answered z));
 }

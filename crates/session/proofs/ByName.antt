@@ -39,6 +39,6 @@ module _ (g : Grammar) (ok : Sound g) (s t : Session) (e : ℕ) (a d : Added) (a
     firings = p .column .counted ∙ symbols-fire g ok e _ _ (s .count) (p .column .column) (theirs .column) held ∙ sym (theirs .counted);
   }
 
-pub by-name : (b : List ℕ) (s t : Session) (e : ℕ) (a d : Added) → SameSymbols (decode b) s t → AddIs b s e a → a .number ≡ 0 → AddIs b t e d → d .number ≡ 0
+pub by-name : (b : List ℕ) (s t : Session) (e : ℕ) (a d : Added) → SameSymbols (decode b) s t → AddIs b s e a → a .refusal ≡ 0 → AddIs b t e d → d .refusal ≡ 0
     → SameColumn (decode b) (s .count) a d
 by-name b s t e a d alike p z r y = same-column (decode b) (image-accepted b s e a p z .sound) s t e a d alike (p .answered z) (r .answered y)

@@ -77,7 +77,7 @@ whole b begun = record { count = empty-count; long = empty-long; columns = colum
 whole b (added {w} {s} {m} {e} {a} g is z) = whole-more b w s m e a (whole b g) (is .answered z)
 
 -- ---- an add with success
-module _ (b w : List ℕ) (s : Session) (m e : ℕ) (a : Added) (grown : Grown b w s m) (is : AddIs b s e a) (success : a .number ≡ 0) where
+module _ (b w : List ℕ) (s : Session) (m e : ℕ) (a : Added) (grown : Grown b w s m) (is : AddIs b s e a) (success : a .refusal ≡ 0) where
   now : Whole b (w then e) (a .session) (m + a .firings)
   now = whole b (added grown is success)
 
@@ -89,7 +89,7 @@ module _ (b w : List ℕ) (s : Session) (m e : ℕ) (a : Added) (grown : Grown b
 
   -- the answer that a judgement into the session's own memory would give
   fresh : Judged
-  fresh = record { number = 0; rule = 0; admitted = a .admitted; items = onesTo (a .session .chart) (cells (length (w then e))); firings = m + a .firings }
+  fresh = record { refusal = 0; rule = 0; admitted = a .admitted; items = onesTo (a .session .chart) (cells (length (w then e))); firings = m + a .firings }
 
   count-now : s .count + 1 ≡ length (w then e)
   count-now = sym (is .answered success .count) ∙ now .count
@@ -105,8 +105,8 @@ module _ (b w : List ℕ) (s : Session) (m e : ℕ) (a : Added) (grown : Grown b
   own = answer (decode b) (image-ok .sound) (w then e) _ _ _ (now .columns) fresh (now .long ∙ sym empty-long) top refl refl
 
   module _ (before : List ℕ) (r : Judged) (c : List ℕ) (long : cells (length (w then e)) ≤ length before) (j : JudgeIs b (w then e) before r c) where
-    number : r .number ≡ 0
-    number = first-only (j .number)
+    number : r .refusal ≡ 0
+    number = first-only (j .refusal)
         (past-zero (imageRows b) (eventRows (length (w then e)) ++ chartRows (length (w then e)) (length before)) (omega arith) 0 refl
         (accepted-back b image-ok) (pass (omega (arith, few)) (pass long none)))
 
@@ -119,7 +119,7 @@ module _ (b w : List ℕ) (s : Session) (m e : ℕ) (a : Added) (grown : Grown b
     as-judged : AsJudged (length (w then e)) a (m + a .firings) r c
     unfolding fresh
     as-judged = record {
-      number = number;
+      refusal = number;
       count = now .count;
       words = shows-only (decode b) (w then e) _ _ (own .chart) (theirs .chart);
       admitted = decides-only (Admitted (decode b) (w then e)) (a .admitted) (r .admitted) (own .admitted) (theirs .admitted);
@@ -136,8 +136,8 @@ module _ (b w : List ℕ) (s : Session) (m e : ℕ) (a : Added) (grown : Grown b
 
   -- taken back
   module _ (t : TakenBack) (k : TakeBackIs (a .session) t) where
-    taken : t .number ≡ 0
-    taken = first-only (k .number) (pass (omega (arith, is .answered success .count), omega (arith, few, now .count)) none)
+    taken : t .refusal ≡ 0
+    taken = first-only (k .refusal) (pass (omega (arith, is .answered success .count), omega (arith, few, now .count)) none)
 
     cleared : TakeBackAnswered (a .session) t
     cleared = k .answered taken
@@ -158,10 +158,10 @@ module _ (b w : List ℕ) (s : Session) (m e : ℕ) (a : Added) (grown : Grown b
     word = around (t .session .chart) (s .chart) (cellAt 0 (s .count + 1)) (s .count + 1) (λ y l. frame .before y l ∙ is .answered success .column .frame .before y l)
         (λ x l. cleared-words .at x l ∙ sym (was-zero _ (omega arith))) (λ y l. frame .after y l ∙ is .answered success .column .frame .after y (omega arith))
 
-    undone : (t .number ≡ 0) × (t .session ≡ s)
+    undone : (t .refusal ≡ 0) × (t .session ≡ s)
     undone = (taken, session-eq _ _ (ext-getD 0 _ _ (cleared .frame .long ∙ is .answered success .column .frame .long) (λ y l. word y)) (omega (arith, cleared .count, is .answered success .count)))
 
-pub growing : (b w : List ℕ) (s : Session) (m e : ℕ) (a : Added) → Grown b w s m → AddIs b s e a → a .number ≡ 0 → Growing b w s m e a
+pub growing : (b w : List ℕ) (s : Session) (m e : ℕ) (a : Added) → Grown b w s m → AddIs b s e a → a .refusal ≡ 0 → Growing b w s m e a
 growing b w s m e a grown is success = record {
   judged = as-judged b w s m e a grown is success;
   same = same b w s m e a grown is success;

@@ -16,23 +16,23 @@ use Rattle.session.proofs.Adds.{session-eq}
 
 -- ---- what a refusal answers, and what success does
 module _ (s : Session) (t : TakenBack) where
-  pub refusal : ((0 < s .count) × (s .count ≤ mostAdded) → ⊥) → t ≡ record { session = s; number = 18 } → TakeBackIs s t
+  pub refusal : ((0 < s .count) × (s .count ≤ mostAdded) → ⊥) → t ≡ record { session = s; refusal = 18 } → TakeBackIs s t
   refusal out is = record {
-    number = rw (ap (λ (u : TakenBack). u .number) is) (fail out);
+    refusal = rw (ap (λ (u : TakenBack). u .refusal) is) (fail out);
     refused = λ _. ap (λ (u : TakenBack). u .session) is;
-    answered = λ z. absurd (omega (arith, z, ap (λ (u : TakenBack). u .number) is));
+    answered = λ z. absurd (omega (arith, z, ap (λ (u : TakenBack). u .refusal) is));
   }
 
-  pub success : 0 < s .count → s .count ≤ mostAdded → t .number ≡ 0 → TakeBackAnswered s t → TakeBackIs s t
+  pub success : 0 < s .count → s .count ≤ mostAdded → t .refusal ≡ 0 → TakeBackAnswered s t → TakeBackIs s t
   success some few n is = record {
-    number = rw n (pass (some, few) none);
+    refusal = rw n (pass (some, few) none);
     refused = λ y. absurd (y n);
     answered = λ _. is;
   }
 
 -- ---- one outcome only
-taken-eq : (t u : TakenBack) → t .session ≡ u .session → t .number ≡ u .number → t ≡ u
-taken-eq t u s n = λ i. record { session = s i; number = n i }
+taken-eq : (t u : TakenBack) → t .session ≡ u .session → t .refusal ≡ u .refusal → t ≡ u
+taken-eq t u s n = λ i. record { session = s i; refusal = n i }
 
 module _ (s : Session) (t u : TakenBack) (p : TakeBackAnswered s t) (q : TakeBackAnswered s u) where
   word-same : (y : ℕ) → getD (t .session .chart) y 0 ≡ getD (u .session .chart) y 0
@@ -44,11 +44,11 @@ module _ (s : Session) (t u : TakenBack) (p : TakeBackAnswered s t) (q : TakeBac
 
 -- the answer, and every word of the session
 pub take-back-only : (s : Session) (t u : TakenBack) → TakeBackIs s t → TakeBackIs s u → t ≡ u
-take-back-only s t u p q = taken-eq t u (go (ℕ-discrete (t .number) 0)) n
+take-back-only s t u p q = taken-eq t u (go (ℕ-discrete (t .refusal) 0)) n
   where
-    n : t .number ≡ u .number
-    n = first-only (p .number) (q .number)
+    n : t .refusal ≡ u .refusal
+    n = first-only (p .refusal) (q .refusal)
 
-    go : Dec (t .number ≡ 0) → t .session ≡ u .session
+    go : Dec (t .refusal ≡ 0) → t .session ≡ u .session
     go (yes z) = earlier-same s t u (p .answered z) (q .answered (sym n ∙ z))
     go (no z) = p .refused z ∙ sym (q .refused (λ m. z (n ∙ m)))

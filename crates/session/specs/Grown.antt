@@ -21,11 +21,11 @@ w then e = w ++ (e ∷ [])
 -- s was grown from the empty session by adds with the image b, all with success: w are its events, and m is the sum of the firings reported
 pub data Grown (b : List ℕ) : List ℕ → Session → ℕ → Type 0 where
   begun : Grown b [] noEvents 0
-  added : {w : List ℕ} {s : Session} {m e : ℕ} {a : Added} → Grown b w s m → AddIs b s e a → a .number ≡ 0 → Grown b (w then e) (a .session) (m + a .firings)
+  added : {w : List ℕ} {s : Session} {m e : ℕ} {a : Added} → Grown b w s m → AddIs b s e a → a .refusal ≡ 0 → Grown b (w then e) (a .session) (m + a .firings)
 
 -- after an add: a judgement of the n events so far gave r and left c, in any memory; the add answered a, and all adds together m firings
 pub record AsJudged (n : ℕ) (a : Added) (m : ℕ) (r : Judged) (c : List ℕ) : Type 0 where
-  pub number : r .number ≡ 0
+  pub refusal : r .refusal ≡ 0
   pub count : a .session .count ≡ n
   pub words : (y : ℕ) → y < cells n → getD (a .session .chart) y 0 ≡ getD c y 0
   pub admitted : a .admitted ≡ r .admitted
@@ -39,4 +39,4 @@ pub record Growing (b w : List ℕ) (s : Session) (m e : ℕ) (a : Added) : Type
   -- lent memory that is zero, as the session is at first, becomes the session's in every word
   pub same : (r : Judged) (c : List ℕ) → JudgeIs b (w then e) (noEvents .chart) r c → c ≡ a .session .chart
   -- taking the event back gives the earlier session
-  pub undone : (t : TakenBack) → TakeBackIs (a .session) t → (t .number ≡ 0) × (t .session ≡ s)
+  pub undone : (t : TakenBack) → TakeBackIs (a .session) t → (t .refusal ≡ 0) × (t .session ≡ s)

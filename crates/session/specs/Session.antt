@@ -52,10 +52,10 @@ pub record AddAnswered (g : Grammar) (s : Session) (e : ℕ) (a : Added) : Type 
   pub admitted : Decides (a .admitted) (bit (rd (a .session .chart) 0 (s .count + 1)) 0 ≡ 1)
 
 pub record AddIs (b : List ℕ) (s : Session) (e : ℕ) (a : Added) : Type 0 where
-  pub number : First (addRows b s) (a .number)
-  pub rule : Names (decode b) (a .number) (a .rule)
-  pub refused : a .number ≢ 0 → AddRefused s a
-  pub answered : a .number ≡ 0 → AddAnswered (decode b) s e a
+  pub refusal : First (addRows b s) (a .refusal)
+  pub rule : Names (decode b) (a .refusal) (a .rule)
+  pub refused : a .refusal ≢ 0 → AddRefused s a
+  pub answered : a .refusal ≡ 0 → AddAnswered (decode b) s e a
 
 -- ---- taking the last event back
 -- 18: there is none, or more than a session has
@@ -69,6 +69,6 @@ pub record TakeBackAnswered (s : Session) (t : TakenBack) : Type 0 where
   pub frame : Framed (s .chart) (t .session .chart) (cellAt 0 (s .count)) (s .count)
 
 pub record TakeBackIs (s : Session) (t : TakenBack) : Type 0 where
-  pub number : First (takeBackRows (s .count)) (t .number)
-  pub refused : t .number ≢ 0 → t .session ≡ s
-  pub answered : t .number ≡ 0 → TakeBackAnswered s t
+  pub refusal : First (takeBackRows (s .count)) (t .refusal)
+  pub refused : t .refusal ≢ 0 → t .session ≡ s
+  pub answered : t .refusal ≡ 0 → TakeBackAnswered s t

@@ -20,14 +20,14 @@ pub struct Added {
     pub session: Session,
     pub firings: u64,
     pub rule: u16,
-    pub number: u8,
+    pub refusal: u8,
     pub admitted: bool,
 }
 
 // What taking back answers: a refusal with the session as it was, or 0 with the session before its last event.
 pub struct TakenBack {
     pub session: Session,
-    pub number: u8,
+    pub refusal: u8,
 }
 
 // The session without events.
@@ -40,14 +40,14 @@ pub fn begin() -> Session
     }
 }
 
-fn refused(session: Session, number: u8, rule: u16) -> Added
-    ensures { λ a. ⌜ a ≡ record { session = session; firings = 0; rule = rule; number = number; admitted = false } ⌝ }
+fn refused(session: Session, refusal: u8, rule: u16) -> Added
+    ensures { λ a. ⌜ a ≡ record { session = session; firings = 0; rule = rule; refusal = refusal; admitted = false } ⌝ }
 {
     Added {
         session: session,
         firings: 0,
         rule: rule,
-        number: number,
+        refusal,
         admitted: false,
     }
 }
@@ -57,7 +57,7 @@ pub fn add(image: &[u8], session: Session, event: u16) -> Added
     ensures { λ a. ⌜ AddIs (now (image .entry)) session event a ⌝ }
 {
     let tested = image::test_image(image);
-    let early = tested.number;
+    let early = tested.refusal;
     if early != 0 {
         return refused(session, early, tested.rule);
     }
@@ -77,17 +77,17 @@ pub fn add(image: &[u8], session: Session, event: u16) -> Added
         },
         firings: firings,
         rule: 0,
-        number: 0,
+        refusal: 0,
         admitted: admitted,
     }
 }
 
 fn kept(session: Session) -> TakenBack
-    ensures { λ t. ⌜ t ≡ record { session = session; number = 18 } ⌝ }
+    ensures { λ t. ⌜ t ≡ record { session = session; refusal = 18 } ⌝ }
 {
     TakenBack {
         session: session,
-        number: 18,
+        refusal: 18,
     }
 }
 
@@ -112,6 +112,6 @@ pub fn take_back(session: Session) -> TakenBack
             chart: words,
             count: left,
         },
-        number: 0,
+        refusal: 0,
     }
 }

@@ -37,7 +37,7 @@ returns-2 c =
     let z = c .before .if2 .taken in
     let p = c .before .before .rule-refusal .ensures in
     refusal (imageRows b) (decode b) _ _ _ z
-    (by-rules b _ (c .before .before .before .if1 .left) (c .before .before .before .before .byte-refusal .ensures) (p .number)) (p .rule)
+    (by-rules b _ (c .before .before .before .if1 .left) (c .before .before .before .before .byte-refusal .ensures) (p .refusal)) (p .rule)
     (c .refused2 .ensures)
 
 accepted-requires : tie.Need-accepted-requires
@@ -49,7 +49,7 @@ returns-3 c =
     let b = c .before .before .before .before .before .before .args .image .now in
     acceptance (imageRows b) (decode b) _
     (subst (First (imageRows b)) (c .before .if2 .left)
-    (by-rules b _ (c .before .before .before .if1 .left) (c .before .before .before .before .byte-refusal .ensures) (c .before .before .rule-refusal .ensures .number)))
+    (by-rules b _ (c .before .before .before .if1 .left) (c .before .before .before .before .byte-refusal .ensures) (c .before .before .rule-refusal .ensures .refusal)))
     (c .accepted .ensures)
 
 pub test-image-spec : {M : Type 1} → statement M

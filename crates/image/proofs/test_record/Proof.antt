@@ -20,7 +20,7 @@ returns c =
     let s = c .before .before .before .args in
     let p = c .before .test-image .ensures in
     record {
-      number = refused-first (imageRows (s .image .now)) (eventRows (s .events)) _ p (c .if1 .taken);
+      refusal = refused-first (imageRows (s .image .now)) (eventRows (s .events)) _ p (c .if1 .taken);
       rule = p .rule;
       accepted = p .accepted;
       refused = p .refused;
@@ -46,7 +46,7 @@ returns-3 c =
     let p = c .before .before .test-image .ensures in
     let e = c .before .if1 .left in
     record {
-      number =
+      refusal =
           subst⁻¹ (First (recordRows b (s .events))) e
           (accepted-first (imageRows b) (eventRows (s .events)) _ p (omega arith) e (pass (c .if2 .left) none));
       rule = p .rule;

@@ -33,23 +33,23 @@ returns : tie.Need-returns
 returns c =
     let w = c .before .before .write-refused .ensures in
     let f = c .before .before .before .before .before .program-refusal .ensures in
-    (w .0, record { number = _; rule = _; first = f .number; names = f .rule; refused = λ _. w .1 .written; listed = λ z. absurd (c .before .before .before .before .if1 .taken z) }, w .1 .rest)
+    (w .0, record { refusal = _; rule = _; first = f .refusal; names = f .rule; refused = λ _. w .1 .written; listed = λ z. absurd (c .before .before .before .before .if1 .taken z) }, w .1 .rest)
 
 slice-aggregate-read-words : tie.Need-slice-aggregate-read-words
 slice-aggregate-read-words c = search needs
 
 read-words-requires : tie.Need-read-words-requires
-read-words-requires c κs = let p = passed (c .before .before .before .before .before .before .args .image .now) (c .before .before .before .before .before .before .args .events .now) _ (c .before .if1 .left) (c .before .before .program-refusal .ensures .number) in omega (arith, p .bytes)
+read-words-requires c κs = let p = passed (c .before .before .before .before .before .before .args .image .now) (c .before .before .before .before .before .before .args .events .now) _ (c .before .if1 .left) (c .before .before .program-refusal .ensures .refusal) in omega (arith, p .bytes)
 
 array-share-prefix-room : tie.Need-array-share-prefix-room
-array-share-prefix-room c = let p = passed (c .before .before .before .before .before .before .before .before .args .image .now) (c .before .before .before .before .before .before .before .before .args .events .now) _ (c .before .before .before .if1 .left) (c .before .before .before .before .program-refusal .ensures .number) in omega (arith, p .bytes, c .before .read-words .ensures .0)
+array-share-prefix-room c = let p = passed (c .before .before .before .before .before .before .before .before .args .image .now) (c .before .before .before .before .before .before .before .before .args .events .now) _ (c .before .before .before .if1 .left) (c .before .before .before .before .program-refusal .ensures .refusal) in omega (arith, p .bytes, c .before .read-words .ensures .0)
 
 slice-aggregate-write-readings : tie.Need-slice-aggregate-write-readings
-slice-aggregate-write-readings c = let p = passed (c .before .before .before .before .before .before .before .before .before .args .image .now) (c .before .before .before .before .before .before .before .before .before .args .events .now) _ (c .before .before .before .before .if1 .left) (c .before .before .before .before .before .program-refusal .ensures .number) in sym (length-take-le _ _ (omega (arith, p .bytes, c .before .before .read-words .ensures .0)))
+slice-aggregate-write-readings c = let p = passed (c .before .before .before .before .before .before .before .before .before .args .image .now) (c .before .before .before .before .before .before .before .before .before .args .events .now) _ (c .before .before .before .before .if1 .left) (c .before .before .before .before .before .program-refusal .ensures .refusal) in sym (length-take-le _ _ (omega (arith, p .bytes, c .before .before .read-words .ensures .0)))
 
 write-readings-requires : tie.Need-write-readings-requires
 write-readings-requires c κs =
-    let p = passed (c .before .before .before .before .before .before .before .before .before .before .args .image .now) (c .before .before .before .before .before .before .before .before .before .before .args .events .now) _ (c .before .before .before .before .before .if1 .left) (c .before .before .before .before .before .before .program-refusal .ensures .number) in
+    let p = passed (c .before .before .before .before .before .before .before .before .before .before .args .image .now) (c .before .before .before .before .before .before .before .before .before .before .args .events .now) _ (c .before .before .before .before .before .if1 .left) (c .before .before .before .before .before .before .program-refusal .ensures .refusal) in
     let e = taken (c .before .before .before .before .before .before .before .before .before .before .args .events .now) _ _ _ (c .before .before .before .read-words .ensures .0) (c .before .before .before .read-words .ensures .1) in
     (p .image, ((rw e (p .few), rw e (p .fits)), c .before .before .before .before .before .before .before .before .before .before .pre))
 
@@ -62,9 +62,9 @@ returns-2 c =
     let e = taken (c .before .before .before .before .before .before .before .before .before .before .before .before .before .args .events .now) _ _ _ (c .before .before .before .before .before .before .read-words .ensures .0) (c .before .before .before .before .before .before .read-words .ensures .1) in (
       w .0,
       record {
-        number = 0;
+        refusal = 0;
         rule = 0;
-        first = rw (c .before .before .before .before .before .before .before .before .if1 .left) at (c .before .before .before .before .before .before .before .before .before .program-refusal .ensures .number);
+        first = rw (c .before .before .before .before .before .before .before .before .if1 .left) at (c .before .before .before .before .before .before .before .before .before .program-refusal .ensures .refusal);
         names = names-before (omega arith) refl;
         refused = λ z. absurd (z refl);
         listed = λ _. w .1 .written ∙ ap (listing (decode (c .before .before .before .before .before .before .before .before .before .before .before .before .before .args .image .now))) e;

@@ -30,7 +30,7 @@ put-line-requires : tie.Need-put-line-requires
 put-line-requires c κs =
     let s = c .before .before .before .before .before .before .before .before .before in
     let n = c .before .before .told .ensures .0 in
-    omega (arith, n, length-take-le _ (s .args .number ∷ s .args .rule ∷ []) n, c .before .before .before .before .before .put-bytes .ensures .0)
+    omega (arith, n, length-take-le _ (s .args .refusal ∷ s .args .rule ∷ []) n, c .before .before .before .before .before .put-bytes .ensures .0)
 
 same-length : tie.Need-same-length
 same-length c = search needs
@@ -41,7 +41,7 @@ returns c =
     let t = c .before .before .before .before .before .told .ensures in
     let b = c .before .before .before .before .before .before .before .before .put-bytes .ensures in
     let s = c .before .before .before .before .before .before .before .before .before .before .before .before in (
-      omega (arith, p .0, t .0, length-take-le _ (s .args .number ∷ s .args .rule ∷ []) (t .0), b .0),
+      omega (arith, p .0, t .0, length-take-le _ (s .args .refusal ∷ s .args .rule ∷ []) (t .0), b .0),
       put-as _ _ _ _ _ _ (ap (λ (x : List ℕ). (114 ∷ 101 ∷ 102 ∷ 117 ∷ 115 ∷ 101 ∷ 100 ∷ 32 ∷ []) ++ line x) (t .1 (s .args .rule))) (put-more _ _ _ _ _ _ _ _ (b .1) (p .1)),
     )
 

@@ -13,7 +13,7 @@ test-record-requires c κs = search needs
 
 returns : tie.Need-returns
 returns c = record {
-  number = c .before .test-record .ensures .number;
+  refusal = c .before .test-record .ensures .refusal;
   rule = c .before .test-record .ensures .rule;
   refused = λ _. refl;
   answered = λ z. absurd (c .if1 .taken z);
@@ -25,7 +25,7 @@ is-reading-requires c κs = let a = record-accepted _ _ _ (c .before .test-recor
 returns-2 : tie.Need-returns-2
 returns-2 c =
     record {
-      number = rw (c .before .if1 .left) at (c .before .before .test-record .ensures .number);
+      refusal = rw (c .before .if1 .left) at (c .before .before .test-record .ensures .refusal);
       rule = names-before (omega arith) refl;
       refused = λ z. absurd (z refl);
       answered = λ _. c .is-reading .ensures;

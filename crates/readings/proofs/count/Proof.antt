@@ -13,7 +13,7 @@ use Rattle.readings.proofs.count.Tie as tie
 
 -- what the refusals leave
 ok : (c : tie.Else1) → let s = c .before .before .before .before .before .args in Countable (s .image .now) (length (s .events .now)) (length (s .table .now))
-ok c = count-ok _ _ _ _ (c .if1 .left) (c .before .count-refusal .ensures .number)
+ok c = count-ok _ _ _ _ (c .if1 .left) (c .before .count-refusal .ensures .refusal)
 
 count-refusal-requires : tie.Need-count-refusal-requires
 count-refusal-requires c κs = search needs
@@ -21,7 +21,7 @@ count-refusal-requires c κs = search needs
 returns : tie.Need-returns
 returns c =
     record {
-      number = c .before .count-refusal .ensures .number;
+      refusal = c .before .count-refusal .ensures .refusal;
       rule = c .before .count-refusal .ensures .rule;
       refused = λ _. record { total = refl; kept = refl };
       answered = λ z. absurd (c .if1 .taken z);
@@ -42,7 +42,7 @@ returns-2 : tie.Need-returns-2
 returns-2 c =
     let p = c .before .before .before .before .before .before in
     record {
-      number = rw (p .if1 .left) at (p .before .count-refusal .ensures .number);
+      refusal = rw (p .if1 .left) at (p .before .count-refusal .ensures .refusal);
       rule = names-before (omega arith) refl;
       refused = λ z. absurd (z refl);
       answered = λ _. record { total = c .total-in .ensures; table = c .before .before .before .before .fill-table .ensures };

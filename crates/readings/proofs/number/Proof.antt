@@ -21,11 +21,11 @@ abbrev early : tie.Start → List Row
 early s = countRows (s .args .image .now) (length (s .args .events .now)) (length (s .args .table .now))
 
 ok : (c : tie.Else1) → let s = c .before .before .before .before .before .before .args in Countable (s .image .now) (length (s .events .now)) (length (s .table .now))
-ok c = count-ok _ _ _ _ (c .if1 .left) (c .before .count-refusal .ensures .number)
+ok c = count-ok _ _ _ _ (c .if1 .left) (c .before .count-refusal .ensures .refusal)
 
 -- past them the late ones decide
 late : (c : tie.Else1) {more : List Row} {n : ℕ} → First more n → First (early (c .before .before .before .before .before .before) ++ more) n
-late c p = past-zero (early (c .before .before .before .before .before .before)) _ (omega arith) _ (c .if1 .left) (c .before .count-refusal .ensures .number) p
+late c p = past-zero (early (c .before .before .before .before .before .before)) _ (omega arith) _ (c .if1 .left) (c .before .count-refusal .ensures .refusal) p
 
 count-refusal-requires : tie.Need-count-refusal-requires
 count-refusal-requires c κs = search needs
@@ -35,9 +35,9 @@ returns c =
     let s = c .before .before .before .before .before .before in
     let p = c .before .count-refusal .ensures in
     record {
-      number = first-hit (early s) _ (c .if1 .taken) (p .number);
+      refusal = first-hit (early s) _ (c .if1 .taken) (p .refusal);
       rule = p .rule;
-      filled = λ h. absurd (early-keeps (early s) (count-early (s .args .image .now) _ _) _ (c .if1 .taken) (p .number) h);
+      filled = λ h. absurd (early-keeps (early s) (count-early (s .args .image .now) _ _) _ (c .if1 .taken) (p .refusal) h);
       kept = λ _. refl;
       answered = λ z. absurd (c .if1 .taken z);
       refused = λ _. refl;
@@ -57,7 +57,7 @@ returns-2 c =
     let f = c .before .before .before .before in
     let p = no-reading _ _ _ (no-of _ (c .before .is-reading .result) (c .if2 .taken) (c .before .is-reading .ensures)) in
     record {
-      number = late (f .before .before) p;
+      refusal = late (f .before .before) p;
       rule = fills-name _ (late-fills _ p);
       filled = λ _. f .fill-table .ensures;
       kept = λ h. absurd (h (late-fills _ p));
@@ -84,7 +84,7 @@ returns-3 c =
     let f = c .before .before .before .before .before .before .before in
     let p = past-limit _ _ _ _ (c .before .rank-reading .ensures) (c .if3 .taken) in
     record {
-      number = late (f .before .before) p;
+      refusal = late (f .before .before) p;
       rule = fills-name _ (late-fills _ p);
       filled = λ _. f .fill-table .ensures;
       kept = λ h. absurd (h (late-fills _ p));
@@ -101,7 +101,7 @@ returns-4 c =
     let h = c .before .rank-reading .ensures in
     let p = below-limit _ _ _ _ h (c .if3 .left) in
     record {
-      number = late (f .before .before) p;
+      refusal = late (f .before .before) p;
       rule = fills-name _ (late-fills _ p);
       filled = λ _. f .fill-table .ensures;
       kept = λ k. absurd (k (late-fills _ p));

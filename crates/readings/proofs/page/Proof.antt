@@ -26,11 +26,11 @@ early s = lentRows (s .args .image .now) (length (s .args .events .now)) (length
 
 ok : (c : tie.Else1) → let s = c .before .before .before .before .before .before .args in
     Lendable (s .image .now) (length (s .events .now)) (length (s .table .now)) (s .m * scriptWords (length (s .events .now))) (length (s .room .now))
-ok c = lent-ok _ _ _ _ _ _ (c .if1 .left) (c .before .lent-refusal .ensures .number)
+ok c = lent-ok _ _ _ _ _ _ (c .if1 .left) (c .before .lent-refusal .ensures .refusal)
 
 -- past them the late ones decide
 late : (c : tie.Else1) {more : List Row} {n : ℕ} → First more n → First (early (c .before .before .before .before .before .before) ++ more) n
-late c p = past-zero (early (c .before .before .before .before .before .before)) _ (omega arith) _ (c .if1 .left) (c .before .lent-refusal .ensures .number) p
+late c p = past-zero (early (c .before .before .before .before .before .before)) _ (omega arith) _ (c .if1 .left) (c .before .lent-refusal .ensures .refusal) p
 
 -- and leave a number that some reading has
 left : (c : tie.Else2) → let s = c .before .before .before .before .before .before .before .before .before .before .before .before .before .before in
@@ -47,9 +47,9 @@ returns c =
     let s = c .before .before .before .before .before .before in
     let p = c .before .lent-refusal .ensures in
     record {
-      number = first-hit (early s) _ (c .if1 .taken) (p .number);
+      refusal = first-hit (early s) _ (c .if1 .taken) (p .refusal);
       rule = p .rule;
-      filled = λ h. absurd (early-keeps (early s) (lent-early (s .args .image .now) _ _ _ _) _ (c .if1 .taken) (p .number) h);
+      filled = λ h. absurd (early-keeps (early s) (lent-early (s .args .image .now) _ _ _ _) _ (c .if1 .taken) (p .refusal) h);
       kept = λ _. refl;
       answered = λ z. absurd (c .if1 .taken z);
       refused = λ _. refl;
@@ -76,7 +76,7 @@ returns-2 c =
     let f = c .before .before .before .before .before .before in
     let p = c .before .number-refusal .ensures _ (c .before .before .total-in .ensures) in
     record {
-      number = late (f .before .before) p;
+      refusal = late (f .before .before) p;
       rule = fills-name _ (late-fills _ p);
       filled = λ _. f .fill-table .ensures;
       kept = λ h. absurd (h (late-fills _ p));
@@ -112,7 +112,7 @@ returns-3 c =
     let f = n .before .before .before .before .before in
     let p = rw (e .if2 .left) at (n .number-refusal .ensures _ (n .before .total-in .ensures)) in
     record {
-      number = late (f .before .before) p;
+      refusal = late (f .before .before) p;
       rule = fills-name _ (late-fills _ p);
       filled = λ _. f .fill-table .ensures;
       kept = λ h. absurd (h (late-fills _ p));

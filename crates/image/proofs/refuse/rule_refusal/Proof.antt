@@ -28,7 +28,7 @@ cast-rule c =
 returns : tie.Need-returns
 returns c =
     let f = c .before .first-fault .ensures .found (omega arith) in
-    record { number = fail (not-every f); rule = names-unfit f }
+    record { refusal = fail (not-every f); rule = names-unfit f }
 
 first-fault-requires-2 : tie.Need-first-fault-requires-2
 first-fault-requires-2 c κs = search needs
@@ -43,7 +43,7 @@ returns-2 : tie.Need-returns-2
 returns-2 c =
     let f = c .before .first-fault2 .ensures .found (omega arith) in
     record {
-      number = pass (c .before .before .before .first-fault .ensures .clean (omega arith)) (fail (not-every f));
+      refusal = pass (c .before .before .before .first-fault .ensures .clean (omega arith)) (fail (not-every f));
       rule = names-low f;
     }
 
@@ -55,7 +55,7 @@ all-live-requires c κs =
 
 returns-3 : tie.Need-returns-3
 returns-3 c = record {
-  number =
+  refusal =
       pass (c .before .before .before .before .before .first-fault .ensures .clean (omega arith))
       (pass (c .before .before .before .first-fault2 .ensures .clean (omega arith))
       (fail (no-of _ (c .before .all-live .result) (c .if3 .taken) (c .before .all-live .ensures))));
@@ -64,7 +64,7 @@ returns-3 c = record {
 
 returns-4 : tie.Need-returns-4
 returns-4 c = record {
-  number =
+  refusal =
       pass (c .before .before .before .before .before .first-fault .ensures .clean (omega arith))
       (pass (c .before .before .before .first-fault2 .ensures .clean (omega arith))
       (pass (yes-of _ (c .before .all-live .result) (c .if3 .left) (c .before .all-live .ensures)) none));

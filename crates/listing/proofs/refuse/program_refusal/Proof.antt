@@ -17,7 +17,7 @@ test-image-requires c κs = search needs
 
 returns : tie.Need-returns
 returns c = record {
-  number = refused-first (imageRows (c .before .before .before .before .args .image .now)) (fileRows (c .before .before .before .before .args .image .now) (c .before .before .before .before .args .events .now)) _ (c .before .test-image .ensures) (c .if1 .taken);
+  refusal = refused-first (imageRows (c .before .before .before .before .args .image .now)) (fileRows (c .before .before .before .before .args .image .now) (c .before .before .before .before .args .events .now)) _ (c .before .test-image .ensures) (c .if1 .taken);
   rule = c .before .test-image .ensures .rule;
 }
 
@@ -26,13 +26,13 @@ mul-if2 c = search needs
 
 returns-2 : tie.Need-returns-2
 returns-2 c = record {
-  number = accepted-first (imageRows (c .before .before .before .before .before .args .image .now)) (fileRows (c .before .before .before .before .before .args .image .now) (c .before .before .before .before .before .args .events .now)) _ (c .before .before .test-image .ensures) (omega arith) (c .before .if1 .left) (fail (λ h. omega (arith, h, c .if2 .taken)));
+  refusal = accepted-first (imageRows (c .before .before .before .before .before .args .image .now)) (fileRows (c .before .before .before .before .before .args .image .now) (c .before .before .before .before .before .args .events .now)) _ (c .before .before .test-image .ensures) (omega arith) (c .before .if1 .left) (fail (λ h. omega (arith, h, c .if2 .taken)));
   rule = names-behind (omega arith) refl;
 }
 
 returns-3 : tie.Need-returns-3
 returns-3 c = record {
-  number = accepted-first (imageRows (c .before .before .before .before .before .before .args .image .now)) (fileRows (c .before .before .before .before .before .before .args .image .now) (c .before .before .before .before .before .before .args .events .now)) _ (c .before .before .before .test-image .ensures) (omega arith) (c .before .before .if1 .left) (pass (omega (arith, c .before .if2 .left)) (fail (λ h. c .if3 .taken h)));
+  refusal = accepted-first (imageRows (c .before .before .before .before .before .before .args .image .now)) (fileRows (c .before .before .before .before .before .before .args .image .now) (c .before .before .before .before .before .before .args .events .now)) _ (c .before .before .before .test-image .ensures) (omega arith) (c .before .before .if1 .left) (pass (omega (arith, c .before .if2 .left)) (fail (λ h. c .if3 .taken h)));
   rule = names-behind (omega arith) refl;
 }
 
@@ -46,7 +46,7 @@ returns-4 c =
     let e = c .before .before .before .before .before .test-image .ensures .accepted (c .before .before .before .before .if1 .left) .symbols in
     let n = length-words (c .before .before .before .before .before .before .before .before .args .events .now) in
     record {
-      number = accepted-first (imageRows (c .before .before .before .before .before .before .before .before .args .image .now)) (fileRows (c .before .before .before .before .before .before .before .before .args .image .now) (c .before .before .before .before .before .before .before .before .args .events .now)) _ (c .before .before .before .before .before .test-image .ensures) (omega arith) (c .before .before .before .before .if1 .left)
+      refusal = accepted-first (imageRows (c .before .before .before .before .before .before .before .before .args .image .now)) (fileRows (c .before .before .before .before .before .before .before .before .args .image .now) (c .before .before .before .before .before .before .before .before .args .events .now)) _ (c .before .before .before .before .before .test-image .ensures) (omega arith) (c .before .before .before .before .if1 .left)
           (pass (omega (arith, c .before .before .before .if2 .left)) (pass (c .before .before .if3 .left) (fail (λ h. omega (arith, h, c .if4 .taken, rw (e, ← n) at (c .before .words-needed .ensures))))));
       rule = names-behind (omega arith) refl;
     }
@@ -56,7 +56,7 @@ returns-5 c =
     let e = c .before .before .before .before .before .test-image .ensures .accepted (c .before .before .before .before .if1 .left) .symbols in
     let n = length-words (c .before .before .before .before .before .before .before .before .args .events .now) in
     record {
-      number = accepted-first (imageRows (c .before .before .before .before .before .before .before .before .args .image .now)) (fileRows (c .before .before .before .before .before .before .before .before .args .image .now) (c .before .before .before .before .before .before .before .before .args .events .now)) _ (c .before .before .before .before .before .test-image .ensures) (omega arith) (c .before .before .before .before .if1 .left)
+      refusal = accepted-first (imageRows (c .before .before .before .before .before .before .before .before .args .image .now)) (fileRows (c .before .before .before .before .before .before .before .before .args .image .now) (c .before .before .before .before .before .before .before .before .args .events .now)) _ (c .before .before .before .before .before .test-image .ensures) (omega arith) (c .before .before .before .before .if1 .left)
           (pass (omega (arith, c .before .before .before .if2 .left)) (pass (c .before .before .if3 .left) (pass (omega (arith, c .if4 .left, rw (e, ← n) at (c .before .words-needed .ensures))) none)));
       rule = names-before (omega arith) refl;
     }

@@ -16,7 +16,7 @@ test-record-requires c κs = search needs
 
 returns : tie.Need-returns
 returns c = record {
-  number = refused-first (recordRows (c .before .before .before .args .image .now) (c .before .before .before .args .n)) (tableRows (c .before .before .before .args .image .now) (c .before .before .before .args .n) (c .before .before .before .args .size)) _ (c .before .test-record .ensures) (c .if1 .taken);
+  refusal = refused-first (recordRows (c .before .before .before .args .image .now) (c .before .before .before .args .n)) (tableRows (c .before .before .before .args .image .now) (c .before .before .before .args .n) (c .before .before .before .args .size)) _ (c .before .test-record .ensures) (c .if1 .taken);
   rule = c .before .test-record .ensures .rule;
 }
 
@@ -29,7 +29,7 @@ returns-2 : tie.Need-returns-2
 returns-2 c =
     let e = c .before .before .before .test-record .ensures .accepted (c .before .before .if1 .left) .symbols in
     record {
-      number = accepted-first (recordRows (c .before .before .before .before .before .args .image .now) (c .before .before .before .before .before .args .n)) (tableRows (c .before .before .before .before .before .args .image .now) (c .before .before .before .before .before .args .n) (c .before .before .before .before .before .args .size)) _ (c .before .before .before .test-record .ensures) (omega arith) (c .before .before .if1 .left)
+      refusal = accepted-first (recordRows (c .before .before .before .before .before .args .image .now) (c .before .before .before .before .before .args .n)) (tableRows (c .before .before .before .before .before .args .image .now) (c .before .before .before .before .before .args .n) (c .before .before .before .before .before .args .size)) _ (c .before .before .before .test-record .ensures) (omega arith) (c .before .before .if1 .left)
           (fail (λ h. omega (arith, h, c .if2 .taken, rw e at (c .before .words-needed .ensures))));
       rule = names-behind (omega arith) refl;
     }
@@ -38,7 +38,7 @@ returns-3 : tie.Need-returns-3
 returns-3 c =
     let e = c .before .before .before .test-record .ensures .accepted (c .before .before .if1 .left) .symbols in
     record {
-      number = accepted-first (recordRows (c .before .before .before .before .before .args .image .now) (c .before .before .before .before .before .args .n)) (tableRows (c .before .before .before .before .before .args .image .now) (c .before .before .before .before .before .args .n) (c .before .before .before .before .before .args .size)) _ (c .before .before .before .test-record .ensures) (omega arith) (c .before .before .if1 .left)
+      refusal = accepted-first (recordRows (c .before .before .before .before .before .args .image .now) (c .before .before .before .before .before .args .n)) (tableRows (c .before .before .before .before .before .args .image .now) (c .before .before .before .before .before .args .n) (c .before .before .before .before .before .args .size)) _ (c .before .before .before .test-record .ensures) (omega arith) (c .before .before .if1 .left)
           (pass (omega (arith, c .if2 .left, rw e at (c .before .words-needed .ensures))) none);
       rule = names-before (omega arith) refl;
     }

@@ -25,7 +25,7 @@ abbrev room : tie.Start → List Row
 room s = roomRows (s .args .m * scriptWords (s .args .n)) (s .args .space)
 
 ok : (c : tie.Else1) → let s = c .before .before .before .args in Countable (s .image .now) (s .n) (s .size)
-ok c = count-ok _ _ _ _ (c .if1 .left) (c .before .count-refusal .ensures .number)
+ok c = count-ok _ _ _ _ (c .if1 .left) (c .before .count-refusal .ensures .refusal)
 
 -- the words of m scripts of n events
 fewer : (m n words : ℕ) → m ≤ 4294967296 → n ≤ mostEvents → words ≡ scriptWords n → m * words < 2 ^ 64
@@ -38,7 +38,7 @@ returns : tie.Need-returns
 returns c =
     let s = c .before .before .before in
     let p = c .before .count-refusal .ensures in
-    record { number = first-hit (early s) (room s) (c .if1 .taken) (p .number); rule = p .rule }
+    record { refusal = first-hit (early s) (room s) (c .if1 .taken) (p .refusal); rule = p .rule }
 
 script-words-requires : tie.Need-script-words-requires
 script-words-requires c κs = omega (arith, ok c .few)
@@ -53,7 +53,7 @@ returns-2 c =
     let s = c .before .before .before .before .before in
     let short : s .args .space < s .args .m * c .before .script-words .result = c .if2 .taken in
     record {
-      number = past-zero (early s) (room s) (omega arith) _ (c .before .before .if1 .left) (c .before .before .before .count-refusal .ensures .number)
+      refusal = past-zero (early s) (room s) (omega arith) _ (c .before .before .if1 .left) (c .before .before .before .count-refusal .ensures .refusal)
           (fail (λ h. omega (arith, h, rw (c .before .script-words .ensures) at short)));
       rule = names-behind (omega arith) refl;
     }
@@ -63,7 +63,7 @@ returns-3 c =
     let s = c .before .before .before .before .before in
     let enough : s .args .m * c .before .script-words .result ≤ s .args .space = c .if2 .left in
     record {
-      number = past-zero (early s) (room s) (omega arith) _ (c .before .before .if1 .left) (c .before .before .before .count-refusal .ensures .number)
+      refusal = past-zero (early s) (room s) (omega arith) _ (c .before .before .if1 .left) (c .before .before .before .count-refusal .ensures .refusal)
           (pass (rw (c .before .script-words .ensures) at enough) none);
       rule = names-before (omega arith) refl;
     }
