@@ -1,6 +1,7 @@
-/* All seven services on CHAIN and the record 7 7 7, and on CHAIN in version 2 with the flag 1 and a record without events; a session on
-   CHAIN; and the test of CHAIN with its event rule twice, which names rule 1, and of CHAIN with a second symbol that a rule names and none
-   can finish. What is written is the specification's. */
+/* All ten functions of reader.h. The test, of CHAIN, of CHAIN in version 2 with the flag 1, of CHAIN with its event rule twice, which names
+   rule 1, and of CHAIN with a second symbol that a rule names and none can finish. judge, count, reading, check, number and page, on CHAIN
+   and the record 7 7 7, and on version 2 and a record without events. begin, add and take_back, on a session with CHAIN. c/expected is what
+   it writes. */
 #include "reader.h"
 #include <stdio.h>
 

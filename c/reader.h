@@ -4,7 +4,7 @@
    first rule at fault as the rule, numbered as the rules stand in the image; with every other answer the rule is 0. For n events a chart
    needs n(n + 1)/2 words, a table as many for each symbol, and the room for a script 2(2n - 1), or none where n is 0; the room for a page
    of m scripts m times as many. reader_judge, reader_count, reader_reading, reader_page and reader_number take about 110 kB of stack.
-   docs/STATEMENTS.md says what each function promises. */
+   docs/REFERENCE.md says in full what each function does and when it refuses; docs/STATEMENTS.md where each fact is stated and proved. */
 #ifndef READER_H
 #define READER_H
 #include <stdbool.h>
@@ -49,8 +49,8 @@ uint8_t reader_number(const uint8_t *image, size_t image_len,
 
 /* A session takes events as they arrive: it is a chart with room for 32 of them, and their count, passed as these two parts and written
    in place. Begun by reader_begin and with the same image for every add, its chart is that of a judgement of the events so far. An add at
-   32 events or more is refused with 17, behind the refusals of the image, and a take-back at 0 events or above 32 with 18; a refusal leaves
-   the session as it was. */
+   32 events or more is refused with 17, behind the refusals of the image, and a take-back with 18 where the count is 0 or more than 32; a
+   refusal leaves the session as it was. */
 enum { READER_SESSION_EVENTS = 32, READER_SESSION_WORDS = 528 };
 
 struct reader_session {
