@@ -3,11 +3,11 @@ use libc::STDERR_FILENO;
 use libc::STDOUT_FILENO;
 ghost use mathlib.Core.Path.{_≡_};
 ghost use Prim.Native.Nat.{_+_, _-_, _≤_, _<_};
-ghost use lib.ListN.{length};
+ghost use lib.ListN.{length, take};
 ghost use lib.Signed.{nonNeg};
 ghost use Rattle.io.specs.Counts.{Counts, clamped};
 ghost use Rattle.image.specs.Accepted.{longestImage};
-ghost use Rattle.listing.specs.Listing.{mostEventBytes, mostBytes};
+ghost use Rattle.listing.specs.Listing.{mostEventBytes, mostBytes, Written};
 
 // What was read of a file: whether it could be opened and every read went well, and how many bytes stand at the buffer's start.
 pub struct Loaded {
@@ -54,6 +54,16 @@ fn load(fd: i32, buf: &mut [u8]) -> Loaded
     Loaded { ok: true, len: at }
 }
 
+// What is to be written of two files, of which a and b were read into the buffers.
+fn write_read(image: &[u8], a: Loaded, events: &[u8], b: Loaded, out: &mut [u8]) -> usize
+    requires { ⌜ (a .len ≤ length (now image)) × (b .len ≤ length (now events)) ⌝ }
+    ensures { λ r. ⌜ Written (a .ok) (take (a .len) (now (image .entry))) (b .ok) (take (b .len) (now (events .entry))) (now (out .entry)) r (now (out .exit)) ⌝ }
+{
+    let n = a.len;
+    let m = b.len;
+    listing::write_output(a.ok, &image[..n], b.ok, &events[..m], out)
+}
+
 // Room for all that is written.
 fn room() -> [u8; listing::MOST_BYTES]
     ensures { λ r. ⌜ mostBytes ≡ length r ⌝ }
@@ -61,15 +71,13 @@ fn room() -> [u8; listing::MOST_BYTES]
     [0; listing::MOST_BYTES]
 }
 
-// Writes out what is to be written of two files, of which a and b were read. Of a longer file such a buffer holds the bytes that decide.
+// Writes it out. Of a longer file such a buffer holds the bytes that decide.
 fn show(image: &[u8], a: Loaded, events: &[u8], b: Loaded)
     requires { ⌜ (longestImage < length (now image)) × (mostEventBytes < length (now events)) ⌝ }
     requires { ⌜ (a .len ≤ length (now image)) × (b .len ≤ length (now events)) ⌝ }
 {
-    let n = a.len;
-    let m = b.len;
     let mut out = room();
-    let size = listing::write_output(a.ok, &image[..n], b.ok, &events[..m], &mut out);
+    let size = write_read(image, a, events, b, &mut out);
     if !io::write_all(STDOUT_FILENO, &out[..size]) {
         io::write_all(STDERR_FILENO, b"standard output: not all was written\n");
     }

@@ -1,4 +1,4 @@
--- The bytes read are among those of the buffers, and the room is as long as anything that is written, so that it is a part of it.
+-- The room is as long as anything that is written, so that it is a part of it.
 -- Assumes nothing.
 use mathlib.Core.Path.{sym}
 use native.Mathlib.Omega.{arith}
@@ -10,23 +10,17 @@ use Rattle.shell.proofs.show.Tie as tie
 room-requires : tie.Need-room-requires
 room-requires c κs = search needs
 
-slice-aggregate-write-output : tie.Need-slice-aggregate-write-output
-slice-aggregate-write-output c = sym (length-take-le _ _ (c .before .before .before .before .pre .1 .0))
+slice-aggregate-write-read : tie.Need-slice-aggregate-write-read
+slice-aggregate-write-read c = search needs
 
-slice-aggregate-write-output-2 : tie.Need-slice-aggregate-write-output-2
-slice-aggregate-write-output-2 c = sym (length-take-le _ _ (c .before .before .before .before .before .pre .1 .1))
-
-slice-aggregate-write-output-3 : tie.Need-slice-aggregate-write-output-3
-slice-aggregate-write-output-3 c = search needs
-
-write-output-requires : tie.Need-write-output-requires
-write-output-requires c κs = search needs
+write-read-requires : tie.Need-write-read-requires
+write-read-requires c κs = c .before .before .before .before .pre .1
 
 array-share-prefix-out : tie.Need-array-share-prefix-out
-array-share-prefix-out c = omega (arith, c .before .write-output .ensures .enough (omega arith) .0)
+array-share-prefix-out c = omega (arith, c .before .write-read .ensures .enough (omega arith) .0)
 
 slice-aggregate-write-all : tie.Need-slice-aggregate-write-all
-slice-aggregate-write-all c = sym (length-take-le _ _ (c .before .before .write-output .ensures .enough (omega arith) .0))
+slice-aggregate-write-all c = sym (length-take-le _ _ (c .before .before .write-read .ensures .enough (omega arith) .0))
 
 write-all-requires : tie.Need-write-all-requires
 write-all-requires c κs = search needs
@@ -48,10 +42,8 @@ show-spec =
     tie.close
     (tie.spec
     room-requires
-    slice-aggregate-write-output
-    slice-aggregate-write-output-2
-    slice-aggregate-write-output-3
-    write-output-requires
+    slice-aggregate-write-read
+    write-read-requires
     array-share-prefix-out
     slice-aggregate-write-all
     write-all-requires
