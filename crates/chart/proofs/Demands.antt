@@ -3,23 +3,20 @@
 use mathlib.Core.Path.{_≡_, refl, sym, ap, _∙_, subst}
 use mathlib.Core.Bool.{Bool, true, false}
 use mathlib.Core.List.{List, _++_}
-use Prim.Native.Nat.{ℕ, _≤_, _<_}
+use Prim.Native.Nat.{ℕ, _<_}
 use native.Mathlib.Omega.{arith}
-use lib.ListN.{length, getD}
+use lib.ListN.{length}
 use Rattle.bits.specs.Truth.{Decides}
-use Rattle.bits.specs.Bit.{bit}
 use Rattle.bits.proofs.Truths.{decides-as}
 use Rattle.bits.proofs.Each.{all-front, all-back}
-use Rattle.derivation.specs.Grammar.{Grammar, leafCount, pairCount, flagged}
+use Rattle.derivation.specs.Grammar.{Grammar, flagged}
 use Rattle.derivation.specs.Tree.{Derivable}
-use Rattle.derivation.specs.Reading.{Admitted}
 use Rattle.derivation.specs.Numbering.{Tells, Telling}
-use Rattle.derivation.specs.Chart.{cellAt, cells, Findings, items, firings, columnFirings, cellFirings, pairFirings, eventFirings, firingsBound}
+use Rattle.derivation.specs.Chart.{Findings, items, firings, columnFirings, cellFirings, pairFirings, eventFirings}
 use Rattle.derivation.proofs.Counts.{of-known}
 use Rattle.derivation.proofs.Numbering.{tells-only}
 use Rattle.derivation.proofs.Flag.{tells-flagged, admitted-flagged, flagged-admitted}
 use Rattle.layout.specs.Layout.{decode}
-use Rattle.image.specs.Refusal.{First}
 use Rattle.image.specs.Exactly.{Exactly, demand}
 use Rattle.image.specs.Image.{recordRows, eventRows}
 use Rattle.image.specs.Accepted.{Accepted}
@@ -27,7 +24,7 @@ use Rattle.image.proofs.Refusals.{answered-exactly, first-only, past-zero, pass
 use Rattle.image.proofs.Images.{record-holding, accepted-back}
 use Rattle.image.proofs.Flags.{rows-flagged, names-flagged}
 use Rattle.chart.specs.declared.Judged.{Judged}
-use Rattle.chart.specs.Judge.{chartRows, judgeRows, Shows, Answered, JudgeIs}
+use Rattle.chart.specs.Judge.{chartRows, judgeRows, Answered, JudgeIs}
 use Rattle.chart.specs.Demand.{Judgeable, DemandTwo}
 
 yes-exactly : {P : Type 0} (ok : Bool) → Decides ok P → Exactly (ok ≡ true) P

@@ -19,7 +19,7 @@ use Rattle.bits.proofs.Frames.{framed-none, framed-set, framed-wider, framed-on
 use Rattle.bits.proofs.Sums.{sum-more, sum-cong, sum-zero, sum-front, sum-split, sum-add, between-none, between-cong, some-join}
 use Rattle.bits.proofs.Truths.{lt-or-ge}
 use Rattle.derivation.specs.Grammar.{Grammar}
-use Rattle.derivation.specs.Chart.{cellsBefore, cellAt, eventFirings, pairFirings, cellFirings, columnFirings}
+use Rattle.derivation.specs.Chart.{cellAt, eventFirings, pairFirings, cellFirings, columnFirings}
 use Rattle.derivation.proofs.Columns.{before-mono}
 use Rattle.kernel.specs.declared.Fired.{Fired}
 use Rattle.kernel.specs.Fire.{hits, Concluded, LeafFired}
@@ -28,7 +28,7 @@ use Rattle.kernel.specs.Apply.{Ready}
 use Rattle.kernel.proofs.Pairs.{none-right}
 use Rattle.kernel.proofs.Readies.{ready-part}
 use Rattle.columns.specs.Fill.{Standing, Pushed}
-use Rattle.columns.specs.NewColumn.{rd, inChart, cellConclusions, ColumnFilled}
+use Rattle.columns.specs.NewColumn.{rd, cellConclusions, ColumnFilled}
 
 -- ---- sums
 first-between : (p k : ℕ) (f : ℕ → ℕ) → p + 1 < k → between p k f ≡ f (p + 1) + between (p + 1) k f

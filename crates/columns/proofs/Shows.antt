@@ -22,7 +22,7 @@ use Rattle.marks.specs.Mark.{meetings}
 use Rattle.marks.specs.Shown.{Filled, Lefts, Rights, Shown, CellMarked}
 use Rattle.marks.proofs.Shows.{met-between, shown-step, shown-empty}
 use Rattle.kernel.specs.declared.Fired.{Fired}
-use Rattle.kernel.specs.Fire.{hits, met, Met, LeafFired}
+use Rattle.kernel.specs.Fire.{met, Met, LeafFired}
 use Rattle.kernel.specs.Conclude.{hit, conclusions}
 use Rattle.columns.specs.Fill.{CellIs}
 use Rattle.columns.specs.NewColumn.{rd, inChart, cellConclusions, ColumnFilled}

@@ -5,14 +5,14 @@ use mathlib.Core.Path.{_≡_}
 use mathlib.Core.Logic.{_≢_}
 use mathlib.Core.Bool.{Bool}
 use mathlib.Core.List.{List}
-use Prim.Native.Nat.{ℕ, _+_, _≤_, _<_, min, max}
+use Prim.Native.Nat.{ℕ, _≤_, _<_, min, max}
 use lib.ListN.{length, getD}
 use Rattle.bits.specs.Truth.{Decides}
-use Rattle.bits.specs.Sum.{sum, between}
+use Rattle.bits.specs.Sum.{sum}
 use Rattle.bits.specs.Bit.{bit}
 use Rattle.bits.specs.Frame.{Framed}
 use Rattle.derivation.specs.Grammar.{Grammar}
-use Rattle.derivation.specs.Chart.{cellAt, cells, Findings, cellFirings, columnFirings}
+use Rattle.derivation.specs.Chart.{cellAt, cells, cellFirings, columnFirings}
 use Rattle.kernel.specs.Fire.{hits}
 use Rattle.kernel.specs.Conclude.{conclusions}
 use Rattle.kernel.specs.declared.Fired.{Fired}

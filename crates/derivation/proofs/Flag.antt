@@ -5,14 +5,14 @@ use mathlib.Core.Path.{_≡_}
 use mathlib.Core.List.{List}
 use Prim.Native.Nat.{ℕ, _<_}
 use native.Mathlib.Omega.{arith}
-use lib.ListN.{length, getD}
+use lib.ListN.{length}
 use Rattle.derivation.specs.Grammar.{Grammar, flagged}
-use Rattle.derivation.specs.Tree.{Tree, leaf, node, Derives, Derivable, script}
+use Rattle.derivation.specs.Tree.{Tree, leaf, node, Derives, script}
 use Rattle.derivation.specs.Reading.{Reading, quiet, derived, Reads, Admitted, spelling, IsReading}
-use Rattle.derivation.specs.Live.{DerivesSome, Reached, start, left, right, Live}
-use Rattle.derivation.specs.Numbering.{none, Numbers, Tells, Telling}
-use Rattle.derivation.specs.Derivations.{derivations, readings, count, known}
-use Rattle.derivation.proofs.Numbering.{numbers-only, derivations-numbered, readings-numbered, known-telling, telling-only}
+use Rattle.derivation.specs.Live.{Reached, start, left, right, Live}
+use Rattle.derivation.specs.Numbering.{none, Numbers, Tells}
+use Rattle.derivation.specs.Derivations.{derivations, readings}
+use Rattle.derivation.proofs.Numbering.{numbers-only, derivations-numbered, readings-numbered}
 
 -- a list that numbers what one predicate holds of numbers what another does, where the two hold of the same
 numbers-alike : {X : Type 0} {Is Is′ : X → Type 0} {scriptOf : X → List ℕ} {past : X} {l : List X} → ((x : X) → Is x → Is′ x) → ((x : X) → Is′ x → Is x)

@@ -2,10 +2,9 @@
 -- How the lists are made need not be believed: they are the only ones with `NumbersDerivations g w A i k` and `NumbersReadings g w`
 -- (`derivations-numbered`, `readings-numbered`, `numbers-only`), and `known` is the only one that is `Telling` (`known-telling`, `telling-only`).
 -- Assumes nothing.
-use mathlib.Core.Path.{_≡_}
 use mathlib.Core.Bool.{Bool, true, false, _&&_}
 use mathlib.Core.List.{List, [], _∷_, _++_, map}
-use Prim.Native.Nat.{ℕ, zero, suc, _+_, _-_, _<_, min}
+use Prim.Native.Nat.{ℕ, zero, suc, _+_, _-_, min}
 use lib.Dec.{eqb, ltb}
 use lib.ListN.{length, getD}
 use Rattle.derivation.specs.Grammar.{Grammar, leafCount, pairCount, eventRule, pairRule}

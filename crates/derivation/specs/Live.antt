@@ -1,14 +1,12 @@
 -- Promised: live and dead symbols: a live one derives some list of one or more events by the rules, and can be reached from symbol 0 through them. The flag is no
 -- rule, and has no say in it.
 -- Assumes nothing.
-use mathlib.Core.Path.{_≡_}
 use mathlib.Core.Logic.{_⊎_}
 use mathlib.Core.List.{List}
-use Prim.Native.Nat.{ℕ, _-_, _≤_, _<_}
+use Prim.Native.Nat.{ℕ, _≤_, _<_}
 use lib.ListN.{length}
-use Rattle.derivation.specs.Grammar.{Grammar, leafCount, pairCount, eventRule, pairRule}
-use Rattle.derivation.specs.Tree.{Tree, leaf, node, Derivable}
-use Rattle.derivation.specs.Reading.{derived, Reads}
+use Rattle.derivation.specs.Grammar.{Grammar, pairCount, pairRule}
+use Rattle.derivation.specs.Tree.{Derivable}
 
 -- A derives some list of one or more events: a record with A derivable over all of it
 pub record DerivesSome (g : Grammar) (A : ℕ) : Type 0 where

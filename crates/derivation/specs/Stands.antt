@@ -8,7 +8,6 @@ use Rattle.derivation.specs.Grammar.{Grammar, leafCount, eventRule, pair
 use Rattle.derivation.specs.Tree.{Tree, leaf, node}
 use Rattle.derivation.specs.Reading.{derived, Reads}
 
--- ---- what it comes to: that every symbol is of use (`LiveReadings`)
 -- A is the symbol of a node of the tree
 abbrev pub Uses : Grammar → ℕ → Tree → Type 0
 Uses g A (leaf r p) = eventRule g r .symbol ≡ A

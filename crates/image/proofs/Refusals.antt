@@ -6,7 +6,7 @@ use mathlib.Core.Logic.{inl, inr, _≢_}
 use mathlib.Core.List.{List, [], _∷_, _++_}
 use Rattle.bits.specs.Truth.{All}
 use Rattle.image.specs.Refusal.{Row, _unless_, FirstOf, First}
-use Rattle.image.specs.Exactly.{Exactly, numberOf, demand, AllHold}
+use Rattle.image.specs.Exactly.{Exactly, numberOf, AllHold}
 
 -- the three ways to an answer
 pub none : First [] 0

@@ -1,18 +1,17 @@
 -- Promised: what is asked of a grammar image and of a record, as the rows of 01's refusal table, and what the two tests answer.
 -- Assumes nothing.
-use Prim.Native.Nat.{ℕ, _+_, _*_, _≤_}
+use Prim.Native.Nat.{ℕ, _+_, _≤_}
 use mathlib.Core.Path.{_≡_}
 use mathlib.Core.Logic.{_⊎_, _≢_}
 use mathlib.Core.List.{List, [], _∷_, _++_}
 use lib.ListN.{length}
 use Rattle.bits.specs.Truth.{Every}
 use Rattle.derivation.specs.Grammar.{Grammar, leafCount, pairCount, ruleCount}
-use Rattle.derivation.specs.Sound.{mostLeaves, mostPairs, InRange, SymbolsFit, Rises, Sound}
+use Rattle.derivation.specs.Sound.{InRange, SymbolsFit, Rises}
 use Rattle.derivation.specs.Live.{Live}
 use Rattle.rules.specs.Fault.{FirstFault}
 use Rattle.image.specs.Refusal.{Row, _unless_, First}
-use Rattle.layout.specs.Layout.{headerBytes, byteAt, versionIn, symbolsIn, leavesIn, pairsIn, quietIn, Sized, Whole, decode}
-use Rattle.image.specs.declared.Refusal.{Refusal}
+use Rattle.layout.specs.Layout.{headerBytes, byteAt, versionIn, symbolsIn, leavesIn, pairsIn, quietIn, Sized, decode}
 use Rattle.image.specs.declared.Tested.{Tested}
 
 -- ---- the demands

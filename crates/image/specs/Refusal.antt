@@ -4,7 +4,6 @@ use Prim.Native.Nat.{ℕ}
 use mathlib.Core.Path.{_≡_}
 use mathlib.Core.Logic.{_⊎_}
 use mathlib.Core.List.{List, [], _∷_}
-use Rattle.bits.specs.Truth.{All}
 
 infix 3 _unless_
 -- a row of the table: the number, and what has to hold for it not to be given

@@ -8,7 +8,7 @@ use lib.ListN.{getD}
 use Rattle.bits.specs.Truth.{same}
 use Rattle.bits.specs.Sum.{sum}
 use Rattle.bits.specs.Bit.{bit}
-use Rattle.derivation.specs.Grammar.{Grammar, leafCount, pairCount, eventRule, pairRule}
+use Rattle.derivation.specs.Grammar.{Grammar, pairCount, eventRule, pairRule}
 use Rattle.derivation.specs.Chart.{eventFirings}
 use Rattle.marks.specs.Mark.{meetings}
 use Rattle.kernel.specs.Conclude.{hit, conclusions, leafConclusions}

@@ -1,11 +1,11 @@
 -- Promised: the bytes of a grammar image, and the grammar that they show, whatever they are.
 -- Assumes nothing.
-use Prim.Native.Nat.{ℕ, suc, zero, _+_, _*_, _≤_, _<_}
+use Prim.Native.Nat.{ℕ, suc, zero, _+_, _*_, _≤_}
 use mathlib.Core.Path.{_≡_}
 use mathlib.Core.List.{List, [], _∷_, map}
 use lib.ListN.{length, getD}
 use Rattle.bits.specs.Truth.{same}
-use Rattle.derivation.specs.Grammar.{EventRule, PairRule, Grammar, leafCount, ruleCount}
+use Rattle.derivation.specs.Grammar.{EventRule, PairRule, Grammar}
 
 -- ---- numbers
 -- a byte past the end is 0

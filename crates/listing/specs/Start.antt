@@ -6,7 +6,6 @@ use lib.ListN.{take}
 use Rattle.image.specs.Accepted.{longestImage}
 use Rattle.listing.specs.Listing.{mostEventBytes}
 
--- ---- so much of each file is read: one byte more than the longest that is not refused for its length
 abbrev pub grammarStart : List ℕ → List ℕ
 grammarStart b = take (longestImage + 1) b
 

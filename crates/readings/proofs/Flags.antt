@@ -9,7 +9,7 @@ use lib.ListN.{length, getD, drop}
 use Rattle.bits.specs.Truth.{Decides}
 use Rattle.bits.proofs.Truths.{decides-as}
 use Rattle.derivation.specs.Grammar.{Grammar, flagged}
-use Rattle.derivation.specs.Tree.{Tree, scriptWords}
+use Rattle.derivation.specs.Tree.{scriptWords}
 use Rattle.derivation.specs.Reading.{Reading, quiet, spelling, IsReading}
 use Rattle.derivation.specs.Derivations.{join, readings, count, pageOf, NumberOf}
 use Rattle.derivation.proofs.Flag.{derivations-flagged, readings-flagged, reading-flagged, flagged-reading}
@@ -19,13 +19,13 @@ use Rattle.image.specs.Image.{imageRows, eventRows}
 use Rattle.image.specs.Accepted.{Accepted}
 use Rattle.image.proofs.Refusals.{behind}
 use Rattle.image.proofs.Flags.{rows-flagged, names-flagged}
-use Rattle.table.specs.Table.{limit, held, tableWords, Filled}
+use Rattle.table.specs.Table.{held, tableWords, Filled}
 use Rattle.readings.specs.declared.Counted.{Counted}
 use Rattle.readings.specs.declared.Read.{Read}
 use Rattle.readings.specs.declared.Paged.{Paged}
 use Rattle.readings.specs.declared.Checked.{Checked}
 use Rattle.readings.specs.declared.Found.{Found}
-use Rattle.readings.specs.Count.{howMany, tableRows, Answered, CountIs}
+use Rattle.readings.specs.Count.{howMany, tableRows, CountIs}
 use Rattle.readings.specs.Reading.{roomRows, numberRows, ReadingIs}
 use Rattle.readings.specs.Page.{onPage, PageIs}
 use Rattle.readings.specs.Check.{CheckIs}

@@ -11,15 +11,13 @@ use Rattle.derivation.specs.Grammar.{Grammar}
 use Rattle.derivation.specs.Reading.{IsReading}
 use Rattle.derivation.specs.Derivations.{NumberOf}
 use Rattle.derivation.proofs.Numbering.{of-number, number-once}
-use Rattle.layout.specs.Layout.{decode}
 use Rattle.image.specs.Refusal.{Row, _unless_, FirstOf, First}
 use Rattle.image.specs.Exactly.{demand, AllHold}
-use Rattle.image.specs.Image.{mostEvents, recordRows, Names}
-use Rattle.image.specs.Accepted.{Accepted}
+use Rattle.image.specs.Image.{recordRows, Names}
 use Rattle.image.proofs.Refusals.{Lacks, none, fail, pass, all-hold, reached, never}
 use Rattle.image.proofs.Named.{names-before, names-behind}
 use Rattle.image.proofs.Images.{record-holding}
-use Rattle.table.specs.Table.{limit, held, tableWords}
+use Rattle.table.specs.Table.{limit, held}
 use Rattle.rank.specs.Rank.{HeldOf}
 use Rattle.readings.specs.Count.{tableRows, countRows}
 use Rattle.readings.specs.Reading.{roomRows, Beyond, numberRows, lentRows, Fills}

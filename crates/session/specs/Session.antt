@@ -5,7 +5,7 @@ use mathlib.Core.Logic.{_≢_}
 use mathlib.Core.Bool.{false}
 use mathlib.Core.List.{List, [], _∷_, _++_}
 use Prim.Native.Nat.{ℕ, _+_, _≤_, _<_}
-use lib.ListN.{length, replicate}
+use lib.ListN.{replicate}
 use Rattle.bits.specs.Truth.{Decides}
 use Rattle.bits.specs.Bit.{bit}
 use Rattle.bits.specs.Frame.{Framed, Zeros}
