@@ -19,63 +19,61 @@ numbers-alike : {X : Type 0} {Is Is′ : X → Type 0} {scriptOf : X → List �
     → Numbers Is scriptOf past l → Numbers Is′ scriptOf past l
 numbers-alike to from n = record { gives = λ q h. to _ (n .gives q h); numbered = λ x d. n .numbered x (from x d); earlier = n .earlier }
 
+-- ---- with another flag
+module _ (q : ℕ) (g : Grammar) (w : List ℕ) where
+  pub derives-flagged : (A i k : ℕ) (t : Tree) → Derives g w A i k t → Derives (flagged q g) w A i k t
+  unfolding flagged
+  derives-flagged A i k (leaf r p) d =
+      record { rule = d .rule; symbol = d .symbol; event = d .event; inside = d .inside; end = d .end; place = d .place }
+  derives-flagged A i k (node r j t u) d = (
+    record { low = d .0 .low; high = d .0 .high; symbol = d .0 .symbol; after = d .0 .after; before = d .0 .before },
+    derives-flagged _ i j t (d .1),
+    derives-flagged _ j k u (d .2),
+  )
+
+  -- a record with events
+  pub reads-flagged : 0 < length w → (r : Reading) → Reads g w r → Reads (flagged q g) w r
+  reads-flagged some quiet d = absurd (omega (arith, d .1))
+  reads-flagged some (derived t) d = derives-flagged 0 0 (length w) t d
+
+-- ---- and back: the grammar is the other with its own flag
 module _ (q : ℕ) (g : Grammar) where
   module _ (w : List ℕ) where
-    pub derives-flagged : (A i k : ℕ) (t : Tree) → Derives g w A i k t → Derives (flagged q g) w A i k t
-    unfolding flagged
-    derives-flagged A i k (leaf r p) d =
-        record { rule = d .rule; symbol = d .symbol; event = d .event; inside = d .inside; end = d .end; place = d .place }
-    derives-flagged A i k (node r j t u) d = (
-      record { low = d .0 .low; high = d .0 .high; symbol = d .0 .symbol; after = d .0 .after; before = d .0 .before },
-      derives-flagged _ i j t (d .1),
-      derives-flagged _ j k u (d .2),
-    )
-
     pub flagged-derives : (A i k : ℕ) (t : Tree) → Derives (flagged q g) w A i k t → Derives g w A i k t
     unfolding flagged
-    flagged-derives A i k (leaf r p) d =
-        record { rule = d .rule; symbol = d .symbol; event = d .event; inside = d .inside; end = d .end; place = d .place }
-    flagged-derives A i k (node r j t u) d = (
-      record { low = d .0 .low; high = d .0 .high; symbol = d .0 .symbol; after = d .0 .after; before = d .0 .before },
-      flagged-derives _ i j t (d .1),
-      flagged-derives _ j k u (d .2),
-    )
+    flagged-derives = derives-flagged (g .quiet) (flagged q g) w
 
     pub tells-flagged : (A i k x : ℕ) → Tells g w A i k x → Tells (flagged q g) w A i k x
     tells-flagged A i k x t = record {
       yes = λ d. t .yes (d .0, flagged-derives A i k (d .0) (d .1));
-      no = λ n. t .no (λ d. n (d .0, derives-flagged A i k (d .0) (d .1)));
+      no = λ n. t .no (λ d. n (d .0, derives-flagged q g w A i k (d .0) (d .1)));
     }
 
     pub derivations-flagged : (A i k : ℕ) → derivations (flagged q g) w A i k ≡ derivations g w A i k
     derivations-flagged A i k =
-        numbers-only (Derives g w A i k) script none _ _ (numbers-alike (flagged-derives A i k) (derives-flagged A i k) (derivations-numbered (flagged q g) w A i k))
+        numbers-only (Derives g w A i k) script none _ _ (numbers-alike (flagged-derives A i k) (derives-flagged q g w A i k) (derivations-numbered (flagged q g) w A i k))
         (derivations-numbered g w A i k)
 
     -- a record with events
     module _ (some : 0 < length w) where
-      pub reads-flagged : (r : Reading) → Reads g w r → Reads (flagged q g) w r
-      reads-flagged quiet d = absurd (omega (arith, d .1))
-      reads-flagged (derived t) d = derives-flagged 0 0 (length w) t d
-
       pub flagged-reads : (r : Reading) → Reads (flagged q g) w r → Reads g w r
-      flagged-reads quiet d = absurd (omega (arith, d .1))
-      flagged-reads (derived t) d = flagged-derives 0 0 (length w) t d
+      unfolding flagged
+      flagged-reads = reads-flagged (g .quiet) (flagged q g) w some
 
       pub admitted-flagged : Admitted g w → Admitted (flagged q g) w
-      admitted-flagged d = (d .0, reads-flagged (d .0) (d .1))
+      admitted-flagged d = (d .0, reads-flagged q g w some (d .0) (d .1))
 
       pub flagged-admitted : Admitted (flagged q g) w → Admitted g w
       flagged-admitted d = (d .0, flagged-reads (d .0) (d .1))
 
       pub reading-flagged : (s : List ℕ) → IsReading g w s → IsReading (flagged q g) w s
-      reading-flagged s d = record { reading = d .reading; reads = reads-flagged (d .reading) (d .reads); spelt = d .spelt }
+      reading-flagged s d = record { reading = d .reading; reads = reads-flagged q g w some (d .reading) (d .reads); spelt = d .spelt }
 
       pub flagged-reading : (s : List ℕ) → IsReading (flagged q g) w s → IsReading g w s
       flagged-reading s d = record { reading = d .reading; reads = flagged-reads (d .reading) (d .reads); spelt = d .spelt }
 
       pub readings-flagged : readings (flagged q g) w ≡ readings g w
-      readings-flagged = numbers-only (Reads g w) spelling quiet _ _ (numbers-alike flagged-reads reads-flagged (readings-numbered (flagged q g) w)) (readings-numbered g w)
+      readings-flagged = numbers-only (Reads g w) spelling quiet _ _ (numbers-alike flagged-reads (reads-flagged q g w some) (readings-numbered (flagged q g) w)) (readings-numbered g w)
 
   -- ---- live symbols
   reached-flagged : {A : ℕ} → Reached g A → Reached (flagged q g) A
@@ -89,7 +87,7 @@ module _ (q : ℕ) (g : Grammar) where
     derives = record {
       events = l .derives .events;
       some = l .derives .some;
-      derivable = (l .derives .derivable .0, derives-flagged (l .derives .events) A 0 (length (l .derives .events)) (l .derives .derivable .0) (l .derives .derivable .1));
+      derivable = (l .derives .derivable .0, derives-flagged q g (l .derives .events) A 0 (length (l .derives .events)) (l .derives .derivable .0) (l .derives .derivable .1));
     };
     reached = reached-flagged (l .reached);
   }

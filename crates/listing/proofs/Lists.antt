@@ -18,7 +18,8 @@ use Rattle.derivation.specs.Derivations.{join}
 use Rattle.image.proofs.Refusals.{first-only}
 use Rattle.image.proofs.Named.{names-same}
 use Rattle.table.specs.Table.{limit}
-use Rattle.text.specs.Text.{line, Put}
+use Rattle.text.specs.Text.{line}
+use Rattle.text.specs.Put.{Put}
 use Rattle.text.proofs.Puts.{put-none, put-more, put-as}
 use Rattle.listing.specs.Listing.{mostBytes, lineBytes, refusedWords, refusedLine, orMore, lines, ListingIs, noFileLine, OutputIs, Written}
 

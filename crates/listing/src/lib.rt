@@ -11,7 +11,7 @@ ghost use Rattle.layout.specs.Layout.{decode};
 ghost use Rattle.image.specs.Image.{mostEvents};
 ghost use Rattle.image.specs.Accepted.{Accepted};
 ghost use Rattle.table.specs.Table.{tableWords};
-ghost use Rattle.text.specs.Text.{Put};
+ghost use Rattle.text.specs.Put.{Put};
 ghost use Rattle.listing.specs.Listing.{mostWords, mostBytes, refusedWords, refusedLine, orMore, heading, listing, ListingIs, noFileLine, OutputIs, Written};
 
 // The scripts that are listed at most.

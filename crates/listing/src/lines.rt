@@ -4,7 +4,8 @@ ghost use lib.ListN.{length, take, drop};
 ghost use Rattle.derivation.specs.Tree.{scriptWords};
 ghost use Rattle.derivation.specs.Derivations.{join};
 ghost use Rattle.image.specs.Image.{mostEvents};
-ghost use Rattle.text.specs.Text.{line, Put};
+ghost use Rattle.text.specs.Text.{line};
+ghost use Rattle.text.specs.Put.{Put};
 ghost use Rattle.listing.specs.Listing.{mostListed, mostBytes};
 
 // The lines of the first `count` scripts in the room, of `words` words each, from the place `at` on.

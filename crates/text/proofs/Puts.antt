@@ -7,7 +7,7 @@ use native.Mathlib.Nat.{le-trans, le-refl}
 use native.Mathlib.Omega.{arith}
 use lib.ListN.{take, drop}
 use lib.Seq.{drop-drop}
-use Rattle.text.specs.Text.{Put}
+use Rattle.text.specs.Put.{Put}
 
 -- what is the same from the place at on is the same from a later place on
 pub rest-on : (x y : List ℕ) (at r : ℕ) → at ≤ r → drop at x ≡ drop at y → drop r x ≡ drop r y

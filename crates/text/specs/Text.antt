@@ -1,11 +1,9 @@
--- Promised: text as bytes: a number in decimal, a line of numbers; where it stands in a room; and bytes as 16-bit words.
+-- Promised: text as bytes: a number in decimal, a line of numbers; and bytes as 16-bit words.
 -- Assumes nothing.
-use Prim.Native.Nat.{ℕ, zero, suc, _+_, _*_, _/_, _%_, _≤_}
-use mathlib.Core.Path.{_≡_}
+use Prim.Native.Nat.{ℕ, zero, suc, _+_, _*_, _/_, _%_}
 use mathlib.Core.Bool.{cond}
 use mathlib.Core.List.{List, [], _∷_, _++_}
 use lib.Dec.{ltb}
-use lib.ListN.{take, drop}
 
 -- the decimal digits of n, the most significant first, no zero in front; whole where n is below 10 to the power of the fuel
 unfoldable pub textBy : (fuel n : ℕ) → List ℕ
@@ -31,9 +29,3 @@ unfoldable pub words : List ℕ → List ℕ
 words [] = []
 words (a ∷ []) = []
 words (a ∷ b ∷ bs) = (a + 256 * b) ∷ words bs
-
--- t stands in a room from the place at on, up to the place r, and every other byte of the room is as it was before
-pub record Put (t before : List ℕ) (at r : ℕ) (after : List ℕ) : Type 0 where
-  pub behind : at ≤ r
-  pub written : take r after ≡ take at before ++ t
-  pub rest : drop r after ≡ drop r before

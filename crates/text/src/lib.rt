@@ -3,7 +3,8 @@ ghost use mathlib.Core.Path.{_≡_};
 ghost use mathlib.Core.List.{_++_, _∷_, []};
 ghost use Prim.Native.Nat.{_+_, _*_, _/_, _≤_, _<_};
 ghost use lib.ListN.{length, drop};
-ghost use Rattle.text.specs.Text.{text, line, words, Put};
+ghost use Rattle.text.specs.Text.{text, line, words};
+ghost use Rattle.text.specs.Put.{Put};
 
 // One byte at the place at; answers the place behind it.
 pub fn put_byte(out: &mut [u8], at: usize, b: u8) -> usize
