@@ -1,6 +1,9 @@
--- The line is all that stands up to the place behind it.
+-- The bytes that are put are those of the line.
 -- Assumes nothing.
+use mathlib.Core.Path.{refl}
 use native.Mathlib.Omega.{arith}
+use Rattle.text.proofs.Puts.{put-as}
+use Rattle.listing.specs.Listing.{noFileLine}
 use borrow.Author.Needs.{needs}
 use Rattle.listing.proofs.write_no_file.Statement.{statement}
 use Rattle.listing.proofs.write_no_file.Tie as tie
@@ -15,7 +18,7 @@ same-length : tie.Need-same-length
 same-length c = search needs
 
 returns : tie.Need-returns
-returns c = (omega (arith, c .before .before .put-bytes .ensures .0), c .before .before .put-bytes .ensures .1)
+returns c = let p = c .before .before .put-bytes .ensures in (omega (arith, p .0), put-as _ noFileLine _ _ _ _ refl (p .1))
 
 pub write-no-file-spec : {M : Type 1} → statement M
 write-no-file-spec = tie.close (tie.spec slice-aggregate-put-bytes put-bytes-requires same-length returns)
