@@ -15,7 +15,7 @@ use Rattle.derivation.specs.Live.{Live, Dead}
 use Rattle.derivation.proofs.LiveDecided.{dead-symbol, not-all-live}
 use Rattle.image.specs.declared.Tested.{Tested}
 use Rattle.image.specs.Refusal.{Row, _unless_, FirstOf, First}
-use Rattle.image.specs.Exactly.{demand, AllHold}
+use Rattle.image.specs.Exactly.{Exactly, demand, AllHold}
 use Rattle.layout.specs.Layout.{decode, Whole}
 use Rattle.image.specs.Image.{mostEvents, byteRows, ruleRows, eventRows, imageRows, recordRows, Marked, Versioned, Ranged, Names, Gives, GivesCounts, TestedIs}
 use Rattle.image.specs.Accepted.{Accepted, longestImage}
@@ -163,6 +163,9 @@ module _ (b : List ℕ) where
 
   pub tested-accepted : (t : Tested) → TestedIs (imageRows b) (decode b) t → t .refusal ≡ 0 → Accepted b
   tested-accepted t p e = accepted (subst (First (imageRows b)) e (p .refusal))
+
+  pub tested-exactly : (t : Tested) → TestedIs (imageRows b) (decode b) t → Exactly (t .refusal ≡ 0) (Accepted b)
+  tested-exactly t p = record { only = tested-accepted t p; whenever = λ a. first-only (p .refusal) (accepted-back a) }
 
   -- the test of a record says the same, and that the events are not too many
   pub record-holding : (n : ℕ) → AllHold (recordRows b n) → Accepted b × (n ≤ mostEvents)

@@ -2,4 +2,4 @@ pub mod Adds
 pub mod TakesBack
 pub mod Grows
 pub mod ByName
-pub mod AddsExactly
+pub mod Exactly

@@ -11,7 +11,7 @@ same-length : tie.Need-same-length
 same-length c = search needs
 
 returns : tie.Need-returns
-returns c = c .before .before .refusal .ensures
+returns c = c .before .before .number .ensures
 
 pub reader-number-spec : {M : Type 1} → statement M
 reader-number-spec = tie.close (tie.spec number-requires same-length returns)
