@@ -1,0 +1,102 @@
+// The record's chart on the page: the picture, its legend, the chosen stretch with all its findings, and the chosen symbol's stretches.
+import { byId, capital, draw, make, press, some, span, toldCount } from "./dom.js";
+import { STEPS, cellNumber, mostIn, stretchesWith, widest } from "./cells.js";
+import { markView, namedAtFirst, newView, showView } from "./view.js";
+
+const LISTED = 12;
+let chartView, act;
+
+// actions: choose(i, k), pick(symbol); what is chosen is kept by the caller.
+export function setUpChart(actions) {
+  act = actions;
+  chartView = newView(byId("chart"), byId("chartZoom"), "chart", act.choose);
+  byId("cellsShow").addEventListener("change", () => act.redraw());
+  byId("symbol").addEventListener("change", () => act.pick(byId("symbol").value === "" ? undefined : Number(byId("symbol").value)));
+  return chartView;
+}
+
+const markedOf = (shown, chosen) => ({ chosen: chosen.stretch, symbol: chosen.symbol, lit: chosen.lit });
+
+export function showChart(shown, chosen) {
+  const { cells, events, names } = shown, n = events.length, way = byId("cellsShow").value;
+  const named = way === "auto" ? namedAtFirst(cells, n) : way === "names";
+  showView(chartView, { cells, n, events, names, named }, `Chart of ${some(n, "event")}; the table below has the same.`, markedOf(shown, chosen));
+  const first = make("option", { value: "" }, "none");
+  byId("symbol").replaceChildren(first, ...Array.from({ length: shown.symbols }, (_, a) => make("option", { value: a }, `${a} ${names.short(a) === String(a) ? "" : names.short(a)}`)));
+  showLegend(shown, named);
+  showChosen(shown, chosen);
+}
+
+// What has been chosen, without a new picture.
+export function showChosen(shown, chosen) {
+  byId("symbol").value = chosen.symbol ?? "";
+  markView(chartView, markedOf(shown, chosen));
+  showStretch(shown, chosen.stretch);
+  showBreaks(shown, chosen.symbol);
+}
+
+export const waysOf = (shown, i, k, symbol) => shown.table[cellNumber(i, k) * shown.symbols + symbol];
+
+// The chosen stretch: every finding of it, each with its number of derivations.
+function showStretch(shown, stretch) {
+  const box = byId("stretch");
+  if (!stretch) return box.replaceChildren(make("p", { class: "quiet" }, "Choose a stretch to read what it is: by pointer, or in the chart by the arrow keys."));
+  const [i, k] = stretch, found = shown.cells[cellNumber(i, k)], { names } = shown;
+  const events = Array.from(shown.events.slice(i, k), event => names.event(event)).join(" ");
+  box.replaceChildren(make("h3", {}, capital(span(i, k))), make("p", { class: "quiet wrap" }, events));
+  if (!found.length) return box.append(make("p", {}, "No finding: no symbol derives these events."));
+  const rows = found.map(symbol => make("tr", {},
+    make("td", {}, press(names.long(symbol), () => act.pick(symbol), { class: "plain", title: "Show where this is found" })),
+    make("td", { class: "number" }, toldCount(waysOf(shown, i, k, symbol)))));
+  box.append(make("table", { "data-stretch": `${i} ${k}` }, make("caption", {}, some(found.length, "finding")),
+    make("thead", {}, make("tr", {}, make("th", { scope: "col" }, "It is"), make("th", { scope: "col", class: "number" }, "Derivations"))),
+    make("tbody", {}, ...rows)));
+}
+
+const stretchButton = ([i, k]) => make("li", {}, press(capital(span(i, k)), () => act.choose(i, k), { class: "plain" }));
+
+function longestList(shown, symbol) {
+  const all = stretchesWith(shown.cells, shown.events.length, symbol), wide = widest(all), name = shown.names.long(symbol);
+  if (!all.length) return [make("p", {}, `${capital(name)} covers no stretch.`)];
+  const more = wide.length > LISTED ? `; the first ${LISTED} are these` : "";
+  return [make("p", {}, `${capital(name)} is found at ${some(all.length, "stretch", "stretches")}. ` +
+    `${wide.length} of them ${wide.length === 1 ? "lies" : "lie"} in no longer one${more}:`), make("ul", { class: "stretches" }, ...wide.slice(0, LISTED).map(stretchButton))];
+}
+
+// Where a record is not admitted one sees how far symbol 0 comes; the chosen symbol's stretches are told in any case.
+function showBreaks(shown, symbol) {
+  const box = byId("breaks"), n = shown.events.length, parts = [];
+  if (!shown.admitted && n) {
+    const unknown = Array.from({ length: n }, (_, i) => i).filter(i => !shown.cells[cellNumber(i, i + 1)].length);
+    parts.push(make("h3", {}, "Where it breaks"), ...longestList(shown, 0));
+    if (unknown.length) parts.push(make("p", {}, `No rule has the ${unknown.length === 1 ? "event at place" : "events at places"} ` +
+      `${unknown.slice(0, LISTED).map(i => `${i + 1} (${shown.names.event(shown.events[i])})`).join(", ")}${unknown.length > LISTED ? " and more" : ""}.`));
+  }
+  if (symbol !== undefined && (shown.admitted || symbol !== 0) && n) {
+    parts.push(make("h3", {}, `Where ${shown.names.long(symbol)} is found`), ...longestList(shown, symbol));
+  }
+  box.replaceChildren(...parts);
+}
+
+// Colours for how many; places in the square for which.
+function showLegend({ cells, symbols, names }, named) {
+  const most = mostIn(cells), steps = STEPS.filter(least => least <= most);
+  const items = steps.map((least, x) => {
+    const last = Math.min(most, (STEPS[x + 1] ?? 65) - 1);
+    return make("li", {}, swatch(`step${x}`), least === 0 ? "nothing" : least === last ? String(least) : `${least} to ${last}`);
+  });
+  items.push(make("li", {}, swatch("step0 lit"), "in the reading"), make("li", {}, swatch("step0 holds"), "the chosen symbol"));
+  byId("legend").replaceChildren(make("p", {}, "Findings in a stretch, all of them counted:"), make("ul", { class: "swatches" }, ...items));
+  if (named) return;
+  const places = Array.from({ length: symbols }, (_, symbol) => make("li", {}, markSwatch(symbol),
+    press(`${symbol}${names.short(symbol) === String(symbol) ? "" : ` ${names.short(symbol)}`}`, () => act.pick(symbol), { class: "plain" })));
+  byId("legend").append(make("details", { open: symbols <= 16 }, make("summary", {}, "Which: each symbol's place in a cell"), make("ul", { class: "swatches places" }, ...places)));
+}
+
+const swatch = words => draw("svg", { class: "picture swatch", width: 16, height: 16, "aria-hidden": "true" },
+  draw("rect", { class: `cell ${words}`, x: 1.5, y: 1.5, width: 13, height: 13, rx: 2 }));
+
+function markSwatch(symbol) {
+  return draw("svg", { class: "picture swatch", width: 20, height: 20, "aria-hidden": "true" }, draw("rect", { class: "cell step1", x: 1, y: 1, width: 18, height: 18, rx: 2 }),
+    draw("rect", { class: "dot", x: 2 + 2 * (symbol % 8), y: 2 + 2 * (symbol >> 3), width: 2, height: 2 }));
+}
