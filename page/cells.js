@@ -8,12 +8,15 @@ export function symbolsOf(word) {
   return found;
 }
 
-export function* stretchesOf(n) {
-  for (let length = n; length >= 1; length--) for (let i = 0; i + length <= n; i++) yield [i, i + length];
+// Every stretch of n events, the longest first.
+export function stretchesOf(n) {
+  const all = [];
+  for (let length = n; length >= 1; length--) for (let i = 0; i + length <= n; i++) all.push([i, i + length]);
+  return all;
 }
 
 // The stretches that are this symbol, the longest first.
-export const stretchesWith = (cells, n, symbol) => [...stretchesOf(n)].filter(([i, k]) => cells[cellNumber(i, k)].includes(symbol));
+export const stretchesWith = (cells, n, symbol) => stretchesOf(n).filter(([i, k]) => cells[cellNumber(i, k)].includes(symbol));
 
 // Of these only the ones that lie in no other.
 export function widest(stretches) {

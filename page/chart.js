@@ -15,22 +15,24 @@ export function setUpChart(actions) {
   return chartView;
 }
 
-const markedOf = (shown, chosen) => ({ chosen: chosen.stretch, symbol: chosen.symbol, lit: chosen.lit });
+const markedOf = chosen => ({ chosen: chosen.stretch, symbol: chosen.symbol, lit: chosen.lit });
 
 export function showChart(shown, chosen) {
   const { cells, events, names } = shown, n = events.length, way = byId("cellsShow").value;
   const named = way === "auto" ? namedAtFirst(cells, n) : way === "names";
-  showView(chartView, { cells, n, events, names, named }, `Chart of ${some(n, "event")}; the table below has the same.`, markedOf(shown, chosen));
+  showView(chartView, { cells, n, events, names, named }, `Chart of ${some(n, "event")}; the table below has the same.`, markedOf(chosen));
   const first = make("option", { value: "" }, "none");
   byId("symbol").replaceChildren(first, ...Array.from({ length: shown.symbols }, (_, a) => make("option", { value: a }, `${a} ${names.short(a) === String(a) ? "" : names.short(a)}`)));
   showLegend(shown, named);
   showChosen(shown, chosen);
 }
 
-// What has been chosen, without a new picture.
+// What a reading lights, and what has been chosen, without a new picture.
+export const showLit = chosen => markView(chartView, markedOf(chosen));
+
 export function showChosen(shown, chosen) {
   byId("symbol").value = chosen.symbol ?? "";
-  markView(chartView, markedOf(shown, chosen));
+  showLit(chosen);
   showStretch(shown, chosen.stretch);
   showBreaks(shown, chosen.symbol);
 }

@@ -69,6 +69,12 @@ export function setUpInput(examples, load) {
     });
   }
   byId("typedForm").addEventListener("submit", submitted => { submitted.preventDefault(); takeTyped(load); });
+  // a text of several lines is pasted as it is; Enter reads it
+  byId("typed").addEventListener("keydown", key => {
+    if (key.key !== "Enter" || key.shiftKey) return;
+    key.preventDefault();
+    takeTyped(load);
+  });
   byId("names").addEventListener("change", () => takeNames(load));
   document.addEventListener("dragover", drag => { drag.preventDefault(); document.body.classList.add("dropping"); });
   document.addEventListener("dragleave", drag => { if (!drag.relatedTarget) document.body.classList.remove("dropping"); });

@@ -9,7 +9,7 @@ import { followLink, keepLink, linkOf, viewOf } from "./link.js";
 import { namesOf, toldWrong } from "./names.js";
 import { sha256 } from "./sha256.js";
 import { showRefusal, showSums, showVerdict } from "./verdict.js";
-import { setUpChart, showChart, showChosen } from "./chart.js";
+import { setUpChart, showChart, showChosen, showLit } from "./chart.js";
 import { setUpTable, showTable } from "./table.js";
 import { setUpReadings, showReadings } from "./readings.js";
 import { setUpSession, showSession } from "./session.js";
@@ -51,7 +51,7 @@ function choose(change) {
 function turn(k, other) {
   chosen = { ...chosen, k, other };
   chosen.lit = showReadings(shown, k, other);
-  showChosen(shown, chosen);
+  showLit(chosen);
   remember();
 }
 

@@ -27,17 +27,17 @@ function placesOf({ cells, n, events, names, named }) {
 // data: cells, n, events, names, named. The picture has every cell at once; what stands in the cells comes by fill.
 export function newPicture(data, label) {
   const places = placesOf(data), [width, height] = places.whole;
-  const rects = new Map(), contents = new Map(), inside = draw("g");
+  const stretches = stretchesOf(data.n), rects = [], contents = new Map(), inside = draw("g");
   const svg = draw("svg", { class: "picture", viewBox: `0 0 ${width} ${height}`, role: "img", "aria-label": label });
-  for (const [i, k] of stretchesOf(data.n)) {
+  for (const [i, k] of stretches) {
     const rect = draw("rect", { ...places.box(i, k), rx: 2, "data-cell": `${i} ${k}`, "data-found": data.cells[cellNumber(i, k)].join(" ") });
-    rects.set(cellNumber(i, k), rect);
+    rects[cellNumber(i, k)] = { rect, words: "" };
     svg.append(rect);
   }
   svg.append(inside);
   const strip = stripOf(data.events, data.names, places.width, places.floor + 20, MARGIN);
   svg.append(...strip);
-  return { ...data, places, svg, rects, contents, inside, strip };
+  return { ...data, stretches, places, svg, rects, contents, inside, strip };
 }
 
 // The events in a row, each with its place under it.
@@ -54,14 +54,10 @@ export function stripOf(events, names, width, y, margin) {
 // marked: chosen (i, k), symbol, lit: cell -> set of the symbols of a reading, column: the end of the column that has just come.
 export function mark(picture, marked) {
   picture.marked = marked;
-  for (const [i, k] of stretchesOf(picture.n)) {
-    const cell = cellNumber(i, k), found = picture.cells[cell];
-    const words = ["cell", `step${stepOf(found.length)}`];
-    if (marked.lit?.has(cell)) words.push("lit");
-    if (marked.column === k) words.push("came");
-    if (found.includes(marked.symbol)) words.push("holds");
-    if (marked.chosen && marked.chosen[0] === i && marked.chosen[1] === k) words.push("chosen");
-    picture.rects.get(cell).setAttribute("class", words.join(" "));
+  for (const [i, k] of picture.stretches) {
+    const place = picture.rects[cellNumber(i, k)], words = wordsOf(picture, i, k);
+    // most cells stay as they are, and a picture of 4,656 cells must turn at once
+    if (words !== place.words) place.rect.setAttribute("class", place.words = words);
   }
   picture.strip.forEach((group, x) => {
     const within = marked.chosen ? marked.chosen[0] <= x && x < marked.chosen[1] : marked.column === x + 1;
@@ -69,6 +65,16 @@ export function mark(picture, marked) {
   });
   picture.inside.replaceChildren();
   picture.contents.clear();
+}
+
+function wordsOf({ cells, marked: { chosen, symbol, lit, column } }, i, k) {
+  const cell = cellNumber(i, k), found = cells[cell];
+  let words = `cell step${stepOf(found.length)}`;
+  if (lit?.has(cell)) words += " lit";
+  if (column === k) words += " came";
+  if (symbol !== undefined && found.includes(symbol)) words += " holds";
+  if (chosen && chosen[0] === i && chosen[1] === k) words += " chosen";
+  return words;
 }
 
 // What stands in one cell.
@@ -92,7 +98,8 @@ function contentOf(picture, i, k) {
 // Draws what stands in the cells of a part of the picture, and drops what stands outside of it: the largest chart has 297,984 findings.
 export function fill(picture, left, top, right, bottom) {
   const { contents, inside, places } = picture;
-  for (const [i, k] of stretchesOf(picture.n)) {
+  if (right < left && !contents.size) return;
+  for (const [i, k] of picture.stretches) {
     const cell = cellNumber(i, k), { x, y, width, height } = places.box(i, k);
     const seen = x < right && x + width > left && y < bottom && y + height > top && picture.cells[cell].length > 0;
     if (seen && !contents.has(cell)) {

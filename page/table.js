@@ -29,7 +29,7 @@ function fillTable() {
   if (!byId("tablePart").open || !shown) return body.replaceChildren();
   const n = shown.events.length, end = Number(way);
   const found = ([i, k]) => shown.cells[cellNumber(i, k)];
-  const rows = [...stretchesOf(n)].filter(stretch => way === "all" || (end ? stretch[1] === end : found(stretch).length));
+  const rows = stretchesOf(n).filter(stretch => way === "all" || (end ? stretch[1] === end : found(stretch).length));
   body.replaceChildren(...rows.slice(0, ROWS_MOST).map(([i, k]) => make("tr", {},
     make("th", { scope: "row" }, press(span(i, k), () => tableChoose(i, k), { class: "plain" })),
     make("td", { class: "number" }, String(found([i, k]).length)),

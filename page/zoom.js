@@ -1,36 +1,39 @@
 // A picture in a frame that scrolls: fit the whole of it, or show it at the size at which it is read, or steps between.
 import { make, press } from "./dom.js";
 
-const LEAST = 0.02, MOST = 4, FIT_MOST = 1.5;
+const LEAST = 0.02, MOST = 4, FIT_MOST = 1.5, SHARE = .68;
 
 // frame: the element that scrolls, with one svg in it. onchange is told the scale after every change.
 export function newZoom(frame, onchange = () => {}) {
-  const zoom = { scale: 1, fitted: true, width: 0, height: 0 };
-  const apply = scale => {
-    const svg = frame.querySelector("svg");
-    if (!svg) return;
-    // the middle of what is seen stays in the middle
-    const [x, y] = [(frame.scrollLeft + frame.clientWidth / 2) / zoom.scale, (frame.scrollTop + frame.clientHeight / 2) / zoom.scale];
+  const zoom = { scale: 1, fitted: true, width: 0, height: 0, room: [0, 0] };
+  const resize = scale => {
     zoom.scale = Math.min(MOST, Math.max(LEAST, scale));
-    svg.setAttribute("width", Math.round(zoom.width * zoom.scale));
-    svg.setAttribute("height", Math.round(zoom.height * zoom.scale));
-    frame.scrollLeft = x * zoom.scale - frame.clientWidth / 2;
-    frame.scrollTop = y * zoom.scale - frame.clientHeight / 2;
-    onchange(zoom.scale);
+    const svg = frame.querySelector("svg");
+    svg?.setAttribute("width", Math.round(zoom.width * zoom.scale));
+    svg?.setAttribute("height", Math.round(zoom.height * zoom.scale));
   };
-  const most = () => parseFloat(getComputedStyle(frame).maxHeight) || innerHeight * 0.7;
+  const measure = () => { zoom.room = [frame.clientWidth - 2, innerHeight * SHARE - 4]; };
   zoom.fit = () => {
+    if (zoom.room[0] <= 0) measure();
     zoom.fitted = true;
-    apply(Math.min(FIT_MOST, (frame.clientWidth - 2) / zoom.width, (most() - 4) / zoom.height));
+    resize(Math.min(FIT_MOST, zoom.room[0] / zoom.width, zoom.room[1] / zoom.height));
+    onchange(zoom.scale);
   };
   zoom.to = scale => {
     zoom.fitted = false;
-    apply(scale);
+    // the middle of what is seen stays in the middle
+    const { scrollLeft, scrollTop, clientWidth, clientHeight } = frame, before = zoom.scale;
+    resize(scale);
+    const kept = (start, size) => (start + size / 2) / before * zoom.scale - size / 2;
+    [frame.scrollLeft, frame.scrollTop] = [kept(scrollLeft, clientWidth), kept(scrollTop, clientHeight)];
+    onchange(zoom.scale);
   };
   // a new picture keeps the scale that was chosen, where one was
   zoom.take = (width, height) => {
     [zoom.width, zoom.height] = [width, height];
-    if (zoom.fitted) zoom.fit(); else apply(zoom.scale);
+    if (zoom.fitted) return zoom.fit();
+    resize(zoom.scale);
+    onchange(zoom.scale);
   };
   // puts a point of the picture into what is seen
   zoom.see = (x, y, margin = 60) => {
@@ -38,8 +41,20 @@ export function newZoom(frame, onchange = () => {}) {
     if (left < frame.scrollLeft + margin || left > frame.scrollLeft + frame.clientWidth - margin) frame.scrollLeft = left - frame.clientWidth / 2;
     if (top < frame.scrollTop + margin || top > frame.scrollTop + frame.clientHeight - margin) frame.scrollTop = top - frame.clientHeight / 2;
   };
-  addEventListener("resize", () => { if (zoom.fitted) zoom.fit(); });
+  watch(frame, zoom, measure);
   return zoom;
+}
+
+// The room is measured when it changes, and not for every picture: asking for it makes the browser lay out the page in between.
+function watch(frame, zoom, measure) {
+  const again = () => requestAnimationFrame(() => {
+    const before = zoom.room;
+    measure();
+    const other = Math.abs(before[0] - zoom.room[0]) > 1 || before[1] !== zoom.room[1];
+    if (other && zoom.fitted && zoom.width && zoom.room[0] > 0) zoom.fit();
+  });
+  new ResizeObserver(again).observe(frame);
+  addEventListener("resize", again);
 }
 
 export function zoomButtons(zoom, what) {
