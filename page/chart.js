@@ -60,9 +60,9 @@ const stretchButton = ([i, k]) => make("li", {}, press(capital(span(i, k)), () =
 function longestList(shown, symbol) {
   const all = stretchesWith(shown.cells, shown.events.length, symbol), wide = widest(all), name = shown.names.long(symbol);
   if (!all.length) return [make("p", {}, `${capital(name)} covers no stretch.`)];
-  const more = wide.length > LISTED ? `; the first ${LISTED} are these` : "";
-  return [make("p", {}, `${capital(name)} is found at ${some(all.length, "stretch", "stretches")}. ` +
-    `${wide.length} of them ${wide.length === 1 ? "lies" : "lie"} in no longer one${more}:`), make("ul", { class: "stretches" }, ...wide.slice(0, LISTED).map(stretchButton))];
+  const which = wide.length > LISTED ? `The ${LISTED} longest of ${wide.length} that lie in no other` : wide.length === 1 ? "The longest, in which all lie" : "Those that lie in no other";
+  return [make("p", {}, `${capital(name)} is found at ${some(all.length, "stretch", "stretches")}. ${which}:`),
+    make("ul", { class: "stretches" }, ...wide.slice(0, LISTED).map(stretchButton))];
 }
 
 // Where a record is not admitted one sees how far symbol 0 comes; the chosen symbol's stretches are told in any case.

@@ -88,7 +88,7 @@ const sessionCells = () => Array.from(run.session.words.slice(0, run.events.leng
 // The column that came last is lit, in the strip too.
 function drawSession() {
   const cells = sessionCells(), n = run.events.length, { names } = run.shown;
-  byId("useRecord").disabled = n === 0;
+  byId("useRecord").disabled = byId("sessionZoom").hidden = n === 0;
   byId("verdicts").replaceChildren(...run.verdicts.map(({ admitted }, x) =>
     make("li", { class: admitted ? "yes" : "no" }, `${names.event(run.events[x])} ${admitted ? "✓" : "–"}`, make("span", { class: "unseen" }, admitted ? " admitted" : " not admitted"))));
   showView(sessionView, { cells, n, events: run.events, names, named: namedAtFirst(cells, n) }, `Chart of the session's ${some(n, "event")}`, { column: n });

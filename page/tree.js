@@ -4,7 +4,7 @@ import { cellNumber } from "./cells.js";
 import { isLeaf, ruleText } from "./grammar.js";
 import { stripOf } from "./picture.js";
 
-const STEP = 44, TREE_MARGIN = 10, HEAD = 24;
+const STEP = 38, TREE_MARGIN = 10, HEAD = 24;
 
 // The nodes from the root, a node before its parts, as they stand in the script.
 export function treeOf(script, rules, n) {

@@ -73,7 +73,7 @@ export function showView(view, data, label, marked) {
   view.frame.replaceChildren(picture.svg);
   mark(picture, marked);
   view.picture = picture;
-  view.zoom.take(...picture.places.whole);
+  view.zoom.take(...picture.places.whole, data.named ? "width" : "whole");
 }
 
 export function markView(view, marked) {

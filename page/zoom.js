@@ -5,7 +5,7 @@ const LEAST = 0.02, MOST = 4, FIT_MOST = 1.5, SHARE = .68;
 
 // frame: the element that scrolls, with one svg in it. onchange is told the scale after every change.
 export function newZoom(frame, onchange = () => {}) {
-  const zoom = { scale: 1, fitted: true, width: 0, height: 0, room: [0, 0] };
+  const zoom = { scale: 1, way: "whole", asked: false, width: 0, height: 0, room: [0, 0] };
   const resize = scale => {
     zoom.scale = Math.min(MOST, Math.max(LEAST, scale));
     const svg = frame.querySelector("svg");
@@ -13,14 +13,15 @@ export function newZoom(frame, onchange = () => {}) {
     svg?.setAttribute("height", Math.round(zoom.height * zoom.scale));
   };
   const measure = () => { zoom.room = [frame.clientWidth - 2, innerHeight * SHARE - 4]; };
-  zoom.fit = () => {
+  // way: the whole of it, or its width; what is below then comes by scrolling
+  zoom.fit = (way = zoom.way) => {
     if (zoom.room[0] <= 0) measure();
-    zoom.fitted = true;
-    resize(Math.min(FIT_MOST, zoom.room[0] / zoom.width, zoom.room[1] / zoom.height));
+    zoom.way = way;
+    resize(Math.min(FIT_MOST, zoom.room[0] / zoom.width, way === "whole" ? zoom.room[1] / zoom.height : FIT_MOST));
     onchange(zoom.scale);
   };
   zoom.to = scale => {
-    zoom.fitted = false;
+    zoom.way = "";
     // the middle of what is seen stays in the middle
     const { scrollLeft, scrollTop, clientWidth, clientHeight } = frame, before = zoom.scale;
     resize(scale);
@@ -28,10 +29,11 @@ export function newZoom(frame, onchange = () => {}) {
     [frame.scrollLeft, frame.scrollTop] = [kept(scrollLeft, clientWidth), kept(scrollTop, clientHeight)];
     onchange(zoom.scale);
   };
-  // a new picture keeps the scale that was chosen, where one was
-  zoom.take = (width, height) => {
+  // a new picture keeps the way that was asked for, where one was
+  zoom.take = (width, height, way = "whole") => {
     [zoom.width, zoom.height] = [width, height];
-    if (zoom.fitted) return zoom.fit();
+    if (!zoom.asked) zoom.way = way;
+    if (zoom.way) return zoom.fit();
     resize(zoom.scale);
     onchange(zoom.scale);
   };
@@ -51,16 +53,21 @@ function watch(frame, zoom, measure) {
     const before = zoom.room;
     measure();
     const other = Math.abs(before[0] - zoom.room[0]) > 1 || before[1] !== zoom.room[1];
-    if (other && zoom.fitted && zoom.width && zoom.room[0] > 0) zoom.fit();
+    if (other && zoom.way && zoom.width && zoom.room[0] > 0) zoom.fit();
   });
   new ResizeObserver(again).observe(frame);
   addEventListener("resize", again);
 }
 
 export function zoomButtons(zoom, what) {
+  const ask = act => () => {
+    zoom.asked = true;
+    act();
+  };
   return make("span", { class: "group", role: "group", "aria-label": `Size of the ${what}` },
-    press("Fit", () => zoom.fit(), { title: `The whole ${what}`, "data-zoom": "fit" }),
-    press("Read", () => zoom.to(1), { title: "The size at which names are read", "data-zoom": "read" }),
-    press("−", () => zoom.to(zoom.scale / 1.4), { "aria-label": "Smaller", "data-zoom": "less" }),
-    press("+", () => zoom.to(zoom.scale * 1.4), { "aria-label": "Larger", "data-zoom": "more" }));
+    press("Fit", ask(() => zoom.fit("whole")), { title: `The whole ${what}`, "data-zoom": "fit" }),
+    press("Width", ask(() => zoom.fit("width")), { title: `The whole width of the ${what}`, "data-zoom": "width" }),
+    press("Read", ask(() => zoom.to(1)), { title: "The size at which names are read", "data-zoom": "read" }),
+    press("−", ask(() => zoom.to(zoom.scale / 1.4)), { "aria-label": "Smaller", "data-zoom": "less" }),
+    press("+", ask(() => zoom.to(zoom.scale * 1.4)), { "aria-label": "Larger", "data-zoom": "more" }));
 }
