@@ -73,6 +73,7 @@ export function showView(view, data, label, marked) {
   view.frame.replaceChildren(picture.svg);
   mark(picture, marked);
   view.picture = picture;
+  view.zoom.near = data.named ? 1 : 2;
   view.zoom.take(...picture.places.whole, data.named ? "width" : "whole");
 }
 

@@ -5,7 +5,7 @@ const LEAST = 0.02, MOST = 4, FIT_MOST = 1.5, SHARE = .68;
 
 // frame: the element that scrolls, with one svg in it. onchange is told the scale after every change.
 export function newZoom(frame, onchange = () => {}) {
-  const zoom = { scale: 1, way: "whole", asked: false, width: 0, height: 0, room: [0, 0] };
+  const zoom = { scale: 1, way: "whole", asked: false, near: 1, width: 0, height: 0, room: [0, 0] };
   const resize = scale => {
     zoom.scale = Math.min(MOST, Math.max(LEAST, scale));
     const svg = frame.querySelector("svg");
@@ -67,7 +67,7 @@ export function zoomButtons(zoom, what) {
   return make("span", { class: "group", role: "group", "aria-label": `Size of the ${what}` },
     press("Fit", ask(() => zoom.fit("whole")), { title: `The whole ${what}`, "data-zoom": "fit" }),
     press("Width", ask(() => zoom.fit("width")), { title: `The whole width of the ${what}`, "data-zoom": "width" }),
-    press("Read", ask(() => zoom.to(1)), { title: "The size at which names are read", "data-zoom": "read" }),
+    press("Read", ask(() => zoom.to(zoom.near)), { title: "The size at which all is read", "data-zoom": "read" }),
     press("−", ask(() => zoom.to(zoom.scale / 1.4)), { "aria-label": "Smaller", "data-zoom": "less" }),
     press("+", ask(() => zoom.to(zoom.scale * 1.4)), { "aria-label": "Larger", "data-zoom": "more" }));
 }
