@@ -15,14 +15,16 @@ export function setUpChart(actions) {
   return chartView;
 }
 
+const numbered = (symbol, names) => names.short(symbol) === String(symbol) ? String(symbol) : `${symbol} ${names.short(symbol)}`;
 const markedOf = chosen => ({ chosen: chosen.stretch, symbol: chosen.symbol, lit: chosen.lit });
 
 export function showChart(shown, chosen) {
   const { cells, events, names } = shown, n = events.length, way = byId("cellsShow").value;
   const named = way === "auto" ? namedAtFirst(cells, n) : way === "names";
-  showView(chartView, { cells, n, events, names, named }, `Chart of ${some(n, "event")}; the table below has the same.`, markedOf(chosen));
-  const first = make("option", { value: "" }, "none");
-  byId("symbol").replaceChildren(first, ...Array.from({ length: shown.symbols }, (_, a) => make("option", { value: a }, `${a} ${names.short(a) === String(a) ? "" : names.short(a)}`)));
+  const label = `Chart of ${some(n, "event")}; the table below has the same.`;
+  showView(chartView, { cells, n, events, names, named }, label, markedOf(chosen));
+  const options = Array.from({ length: shown.symbols }, (_, symbol) => make("option", { value: symbol }, numbered(symbol, names)));
+  byId("symbol").replaceChildren(make("option", { value: "" }, "none"), ...options);
   showLegend(shown, named);
   showChosen(shown, chosen);
 }
@@ -42,7 +44,8 @@ export const waysOf = (shown, i, k, symbol) => shown.table[cellNumber(i, k) * sh
 // The chosen stretch: every finding of it, each with its number of derivations.
 function showStretch(shown, stretch) {
   const box = byId("stretch");
-  if (!stretch) return box.replaceChildren(make("p", { class: "quiet" }, "Choose a stretch to read what it is: by pointer, or in the chart by the arrow keys."));
+  const nothing = "Choose a stretch to read what it is: by pointer, or in the chart by the arrow keys.";
+  if (!stretch) return box.replaceChildren(make("p", { class: "quiet" }, nothing));
   const [i, k] = stretch, found = shown.cells[cellNumber(i, k)], { names } = shown;
   const events = Array.from(shown.events.slice(i, k), event => names.event(event)).join(" ");
   box.replaceChildren(make("h3", {}, capital(span(i, k))), make("p", { class: "quiet wrap" }, events));
@@ -50,9 +53,9 @@ function showStretch(shown, stretch) {
   const rows = found.map(symbol => make("tr", {},
     make("td", {}, press(names.long(symbol), () => act.pick(symbol), { class: "plain", title: "Show where this is found" })),
     make("td", { class: "number" }, toldCount(waysOf(shown, i, k, symbol)))));
+  const heads = [make("th", { scope: "col" }, "It is"), make("th", { scope: "col", class: "number" }, "Derivations")];
   box.append(make("table", { "data-stretch": `${i} ${k}` }, make("caption", {}, some(found.length, "finding")),
-    make("thead", {}, make("tr", {}, make("th", { scope: "col" }, "It is"), make("th", { scope: "col", class: "number" }, "Derivations"))),
-    make("tbody", {}, ...rows)));
+    make("thead", {}, make("tr", {}, ...heads)), make("tbody", {}, ...rows)));
 }
 
 const stretchButton = ([i, k]) => make("li", {}, press(capital(span(i, k)), () => act.choose(i, k), { class: "plain" }));
@@ -60,7 +63,8 @@ const stretchButton = ([i, k]) => make("li", {}, press(capital(span(i, k)), () =
 function longestList(shown, symbol) {
   const all = stretchesWith(shown.cells, shown.events.length, symbol), wide = widest(all), name = shown.names.long(symbol);
   if (!all.length) return [make("p", {}, `${capital(name)} covers no stretch.`)];
-  const which = wide.length > LISTED ? `The ${LISTED} longest of ${wide.length} that lie in no other` : wide.length === 1 ? "The longest, in which all lie" : "Those that lie in no other";
+  const few = wide.length === 1 ? "The longest, in which all lie" : "Those that lie in no other";
+  const which = wide.length > LISTED ? `The ${LISTED} longest of ${wide.length} that lie in no other` : few;
   return [make("p", {}, `${capital(name)} is found at ${some(all.length, "stretch", "stretches")}. ${which}:`),
     make("ul", { class: "stretches" }, ...wide.slice(0, LISTED).map(stretchButton))];
 }
@@ -71,8 +75,9 @@ function showBreaks(shown, symbol) {
   if (!shown.admitted && n) {
     const unknown = Array.from({ length: n }, (_, i) => i).filter(i => !shown.cells[cellNumber(i, i + 1)].length);
     parts.push(make("h3", {}, "Where it breaks"), ...longestList(shown, 0));
-    if (unknown.length) parts.push(make("p", {}, `No rule has the ${unknown.length === 1 ? "event at place" : "events at places"} ` +
-      `${unknown.slice(0, LISTED).map(i => `${i + 1} (${shown.names.event(shown.events[i])})`).join(", ")}${unknown.length > LISTED ? " and more" : ""}.`));
+    const places = unknown.slice(0, LISTED).map(i => `${i + 1} (${shown.names.event(shown.events[i])})`).join(", ");
+    const one = unknown.length === 1 ? "event at place" : "events at places", more = unknown.length > LISTED ? " and more" : "";
+    if (unknown.length) parts.push(make("p", {}, `No rule has the ${one} ${places}${more}.`));
   }
   if (symbol !== undefined && (shown.admitted || symbol !== 0) && n) {
     parts.push(make("h3", {}, `Where ${shown.names.long(symbol)} is found`), ...longestList(shown, symbol));
@@ -88,17 +93,20 @@ function showLegend({ cells, symbols, names }, named) {
     return make("li", {}, swatch(`step${x}`), least === 0 ? "nothing" : least === last ? String(least) : `${least} to ${last}`);
   });
   items.push(make("li", {}, swatch("step0 lit"), "in the reading"), make("li", {}, swatch("step0 holds"), "the chosen symbol"));
-  byId("legend").replaceChildren(make("p", {}, "Findings in a stretch, all of them counted:"), make("ul", { class: "swatches" }, ...items));
+  const title = make("p", {}, "Findings in a stretch, all of them counted:");
+  byId("legend").replaceChildren(title, make("ul", { class: "swatches" }, ...items));
   if (named) return;
-  const places = Array.from({ length: symbols }, (_, symbol) => make("li", {}, markSwatch(symbol),
-    press(`${symbol}${names.short(symbol) === String(symbol) ? "" : ` ${names.short(symbol)}`}`, () => act.pick(symbol), { class: "plain" })));
-  byId("legend").append(make("details", { open: symbols <= 16 }, make("summary", {}, "Which: each symbol's place in a cell"), make("ul", { class: "swatches places" }, ...places)));
+  const places = Array.from({ length: symbols }, (_, symbol) =>
+    make("li", {}, markSwatch(symbol), press(numbered(symbol, names), () => act.pick(symbol), { class: "plain" })));
+  byId("legend").append(make("details", { open: symbols <= 16 }, make("summary", {}, "Which: each symbol's place in a cell"),
+    make("ul", { class: "swatches places" }, ...places)));
 }
 
 const swatch = words => draw("svg", { class: "picture swatch", width: 16, height: 16, "aria-hidden": "true" },
   draw("rect", { class: `cell ${words}`, x: 1.5, y: 1.5, width: 13, height: 13, rx: 2 }));
 
 function markSwatch(symbol) {
-  return draw("svg", { class: "picture swatch", width: 20, height: 20, "aria-hidden": "true" }, draw("rect", { class: "cell step1", x: 1, y: 1, width: 18, height: 18, rx: 2 }),
+  return draw("svg", { class: "picture swatch", width: 20, height: 20, "aria-hidden": "true" },
+    draw("rect", { class: "cell step1", x: 1, y: 1, width: 18, height: 18, rx: 2 }),
     draw("rect", { class: "dot", x: 2 + 2 * (symbol % 8), y: 2 + 2 * (symbol >> 3), width: 2, height: 2 }));
 }

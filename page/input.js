@@ -7,7 +7,9 @@ export const GRAMMAR_READ = 2316, RECORD_READ = 194;
 const TYPED_MOST = 20000;
 
 export const bytesOfEvents = events => Uint8Array.from(events.flatMap(event => [event & 255, event >> 8]));
-export const eventsOfBytes = bytes => Uint16Array.from({ length: bytes.length >> 1 }, (_, x) => bytes[2 * x] + 256 * bytes[2 * x + 1]);
+// A last event of which only one byte came counts too: a file of 193 bytes is too long, and not one of 96 events.
+export const eventsOfBytes = bytes =>
+  Uint16Array.from({ length: Math.ceil(bytes.length / 2) }, (_, x) => bytes[2 * x] + 256 * (bytes[2 * x + 1] ?? 0));
 
 export function tellInput(text) {
   byId("inputTold").textContent = text;
@@ -19,8 +21,8 @@ const head = async (file, most) => new Uint8Array(await file.slice(0, most).arra
 async function take(file, kind, load) {
   try {
     if (kind === "names") {
-      if (file.size > NAMES_MOST) return tellInput(`${cut(file.name, 40)} has ${some(file.size, "byte")}: too long for names, of which ${told(NAMES_MOST)} are read.`);
-      return load({ namesText: await file.text() });
+      if (file.size <= NAMES_MOST) return load({ namesText: await file.text() });
+      return tellInput(`${cut(file.name, 40)} has ${some(file.size, "byte")}: too long for names, of which ${told(NAMES_MOST)} are read.`);
     }
     const most = kind === "grammar" ? GRAMMAR_READ : RECORD_READ, bytes = await head(file, most);
     const long = file.size > most ? ` Of its ${some(file.size, "byte")} the first ${told(most)} were read; the rest changes nothing.` : "";
@@ -40,9 +42,9 @@ async function kindOf(file) {
 
 function takeTyped(load) {
   const text = byId("typed").value;
-  if (text.length > TYPED_MOST) return tellInput(`The text has ${told(text.length)} letters: too long for a record. Choose the event file instead.`);
+  if (text.length > TYPED_MOST) return tellInput(`The text has ${told(text.length)} letters: too long for a record.`);
   const { numbers, wrong } = numbersOf(text, 65535);
-  if (wrong !== undefined) return tellInput(`“${wrong}” is not an event: events are whole numbers from 0 to 65,535, with spaces or commas between.`);
+  if (wrong !== undefined) return tellInput(`“${wrong}” is not an event: those are whole numbers from 0 to 65,535, with spaces between.`);
   const bytes = bytesOfEvents(numbers);
   tellInput(`The record is as typed: ${some(numbers.length, "event")}.`);
   load({ record: bytes.slice(0, RECORD_READ), recordSize: bytes.length });

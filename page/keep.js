@@ -1,5 +1,5 @@
 // What can be kept: the pictures as SVG, all of it as one JSON text, and paper.
-import { byId, make } from "./dom.js";
+import { LIMIT, byId, draw, make } from "./dom.js";
 import { scriptOf } from "./readings.js";
 import { wholeOf } from "./view.js";
 
@@ -20,12 +20,10 @@ function pictureRules() {
 }
 
 export function svgText(svg, title) {
-  const copy = svg.cloneNode(true), style = document.createElementNS(copy.namespaceURI, "style"), name = document.createElementNS(copy.namespaceURI, "title");
-  style.textContent = pictureRules();
-  name.textContent = title;
+  const copy = svg.cloneNode(true);
   const [, , width, height] = copy.getAttribute("viewBox").split(" ");
   [["width", width], ["height", height]].forEach(pair => copy.setAttribute(...pair));
-  copy.prepend(name, style);
+  copy.prepend(draw("title", {}, title), draw("style", {}, pictureRules()));
   return `<?xml version="1.0" encoding="UTF-8"?>\n${new XMLSerializer().serializeToString(copy)}\n`;
 }
 
@@ -34,14 +32,18 @@ const titleOf = ({ sums }, what) => `${what}; grammar ${sums.grammar}, record ${
 // Numbers of 64 bits stand as decimal texts: a JSON number would lose the low digits.
 export function allOf(shown, { k, other, stretch, symbol }) {
   const { sums, recordSize, grammarSize, namesText } = shown;
-  const head = { format: "record-inspector 1", grammar: { sha256: sums.grammar, bytes: grammarSize }, record: { sha256: sums.record, bytes: recordSize }, names: namesText };
+  const made = { grammar: { sha256: sums.grammar, bytes: grammarSize }, record: { sha256: sums.record, bytes: recordSize } };
+  const head = { format: "record-inspector 1", ...made, names: namesText };
   if (shown.refusal) return { ...head, refusal: shown.refusal, rule: shown.rule };
   const readings = [k, other].filter(number => number !== undefined && number < shown.total)
     .map(number => ({ number, script: Array.from(scriptOf(shown, number).script) }));
   return {
-    ...head, refusal: 0, events: Array.from(shown.events), verdict: shown.admitted ? "admitted" : "not admitted",
-    counts: { readings: shown.total, readingsOrMore: shown.total === 4294967295, events: shown.events.length, findings: String(shown.items), firings: String(shown.firings) },
-    chart: Array.from(shown.chart, String), chosen: { stretch: stretch ?? null, symbol: symbol ?? null }, readings,
+    ...head, refusal: 0, verdict: shown.admitted ? "admitted" : "not admitted",
+    counts: {
+      readings: shown.total, orMore: shown.total === LIMIT, events: shown.events.length,
+      findings: String(shown.items), firings: String(shown.firings),
+    },
+    events: Array.from(shown.events), chart: Array.from(shown.chart, String), chosen: { stretch: stretch ?? null, symbol: symbol ?? null }, readings,
   };
 }
 

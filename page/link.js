@@ -23,11 +23,12 @@ export function viewOf(hash) {
   try {
     const parts = new URLSearchParams(hash.slice(1));
     if (hash.length > LINK_MOST || !parts.has("g")) return undefined;
-    const [grammar, record] = [toBytes(parts.get("g")).slice(0, GRAMMAR_READ), toBytes(parts.get("r") ?? "").slice(0, RECORD_READ)];
-    const stretch = /^(\d{1,2})-(\d{1,2})$/.exec(parts.get("s") ?? "");
+    const grammar = toBytes(parts.get("g")).slice(0, GRAMMAR_READ), record = toBytes(parts.get("r") ?? "").slice(0, RECORD_READ);
+    const namesText = (parts.get("n") ?? "").slice(0, NAMES_MOST), stretch = /^(\d{1,2})-(\d{1,2})$/.exec(parts.get("s") ?? "");
+    const [k, other, symbol] = ["k", "o", "a"].map(name => number(parts.get(name)));
     return {
-      parts: { grammar, grammarSize: grammar.length, record, recordSize: record.length, namesText: (parts.get("n") ?? "").slice(0, NAMES_MOST) },
-      chosen: { k: number(parts.get("k")) ?? 0, other: number(parts.get("o")), symbol: number(parts.get("a")), stretch: stretch ? [Number(stretch[1]), Number(stretch[2])] : undefined },
+      parts: { grammar, grammarSize: grammar.length, record, recordSize: record.length, namesText },
+      chosen: { k, other, symbol, stretch: stretch ? [Number(stretch[1]), Number(stretch[2])] : undefined },
     };
   } catch (error) {
     return undefined;

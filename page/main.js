@@ -20,13 +20,14 @@ const EVENT_BYTES = 192;
 // What the reader says of a grammar and a record. An odd file is refused here, as the reader's own program does it: behind 8.
 function examined(given) {
   const { grammar, record, recordSize } = given, tested = reader.test(grammar);
-  const base = { ...given, names: namesOf(given.namesText), sums: { grammar: sha256(grammar), record: sha256(record) }, sizes: tested };
+  const base = { ...given, names: namesOf(given.namesText), sums: { grammar: sha256(grammar), record: sha256(record) } };
   if (tested.refusal) return { ...base, refusal: tested.refusal, rule: tested.rule };
   if (recordSize <= EVENT_BYTES && recordSize % 2) return { ...base, refusal: 14, rule: 0 };
-  const events = eventsOfBytes(record.length % 2 ? Uint8Array.of(...record, 0) : record), judged = reader.judge(grammar, events);
+  const events = eventsOfBytes(record), judged = reader.judge(grammar, events);
   if (judged.refusal) return { ...base, refusal: judged.refusal, rule: judged.rule };
   const { total, table } = reader.count(grammar, events), { symbols, leaves, pairs } = tested;
-  return { ...base, ...judged, events, total, table, symbols, leaves, pairs, flag: headerOf(grammar).flag, rules: rulesOf(grammar), cells: Array.from(judged.chart, symbolsOf) };
+  const { flag } = headerOf(grammar), rules = rulesOf(grammar), cells = Array.from(judged.chart, symbolsOf);
+  return { ...base, ...judged, events, total, table, symbols, leaves, pairs, flag, rules, cells };
 }
 
 // What a link or a hand has chosen, as far as this record has it.

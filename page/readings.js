@@ -76,7 +76,8 @@ function showOne(shown, k, tree, different, [picture, words, numbers, title], zo
   zoom.take(...size);
   byId(words).replaceChildren(treeList(tree, shown, different));
   const other = beside === undefined ? script : scriptOf(shown, beside).script;
-  byId(numbers).replaceChildren(...Array.from(script, (word, x) => word === other[x] ? `${word} ` : make("mark", {}, String(word))).flatMap(part => typeof part === "string" ? [part] : [part, " "]));
+  const marked = Array.from(script, (word, x) => word === other[x] ? [`${word} `] : [make("mark", {}, String(word)), " "]);
+  byId(numbers).replaceChildren(...marked.flat());
 }
 
 // A pasted script: its number, or that it is no reading of this record.

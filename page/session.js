@@ -1,9 +1,9 @@
 // A session: events come one by one, the verdict is told after each, and the last one can be taken back.
-import { byId, make, numbersOf, press, some } from "./dom.js";
-import { symbolsOf } from "./cells.js";
+import { byId, capital, make, numbersOf, press, some, span } from "./dom.js";
+import { cellNumber, symbolsOf } from "./cells.js";
 import { eventsKnown } from "./grammar.js";
 import { refusalOf } from "./refusals.js";
-import { namedAtFirst, newView, showView } from "./view.js";
+import { markView, namedAtFirst, newView, showView } from "./view.js";
 
 const BUTTONS_MOST = 40;
 let sessionReader, sessionView, run;
@@ -78,24 +78,29 @@ function tellSession(text, kind) {
 }
 
 function tellVerdict() {
-  const { admitted, firings } = run.verdicts.at(-1), all = run.verdicts.reduce((sum, verdict) => sum + verdict.firings, 0n), { names } = run.shown;
-  tellSession(`After ${some(run.events.length, "event")}: ${admitted ? "admitted so far" : "not admitted so far"}. ` +
-    `${names.longEvent(run.events.at(-1))} came, with ${some(firings, "firing")}; ${some(all, "firing")} in all.`, admitted ? "yes" : "no");
+  const { admitted, firings } = run.verdicts.at(-1), all = run.verdicts.reduce((sum, verdict) => sum + verdict.firings, 0n);
+  const came = `${run.shown.names.longEvent(run.events.at(-1))} came, with ${some(firings, "firing")}; ${some(all, "firing")} in all.`;
+  const verdict = `After ${some(run.events.length, "event")}: ${admitted ? "admitted so far" : "not admitted so far"}.`;
+  tellSession(`${verdict} ${capital(came)}`, admitted ? "yes" : "no");
 }
 
-const sessionCells = () => Array.from(run.session.words.slice(0, run.events.length * (run.events.length + 1) / 2), symbolsOf);
+const sessionCells = () => Array.from(run.session.words.slice(0, cellNumber(0, run.events.length + 1)), symbolsOf);
 
 // The column that came last is lit, in the strip too.
 function drawSession() {
   const cells = sessionCells(), n = run.events.length, { names } = run.shown;
   byId("useRecord").disabled = byId("sessionZoom").hidden = n === 0;
-  byId("verdicts").replaceChildren(...run.verdicts.map(({ admitted }, x) =>
-    make("li", { class: admitted ? "yes" : "no" }, `${names.event(run.events[x])} ${admitted ? "✓" : "–"}`, make("span", { class: "unseen" }, admitted ? " admitted" : " not admitted"))));
-  showView(sessionView, { cells, n, events: run.events, names, named: namedAtFirst(cells, n) }, `Chart of the session's ${some(n, "event")}`, { column: n });
+  byId("verdicts").replaceChildren(...run.verdicts.map(({ admitted }, x) => {
+    const heard = make("span", { class: "unseen" }, admitted ? " admitted" : " not admitted");
+    return make("li", { class: admitted ? "yes" : "no" }, `${names.event(run.events[x])} ${admitted ? "✓" : "–"}`, heard);
+  }));
+  const data = { cells, n, events: run.events, names, named: namedAtFirst(cells, n) };
+  showView(sessionView, data, `Chart of the session's ${some(n, "event")}`, { column: n });
   byId("sessionCell").textContent = "";
 }
 
 function tellCell(i, k) {
-  const { names } = run.shown, found = sessionCells()[k * (k - 1) / 2 + i];
-  byId("sessionCell").textContent = `Events ${i + 1} to ${k}: ${found.map(symbol => names.long(symbol)).join(", ") || "nothing"}`;
+  const { names } = run.shown, found = sessionCells()[cellNumber(i, k)];
+  byId("sessionCell").textContent = `${capital(span(i, k))}: ${found.map(symbol => names.long(symbol)).join(", ") || "nothing"}`;
+  markView(sessionView, { column: run.events.length, chosen: [i, k] });
 }

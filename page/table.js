@@ -3,7 +3,7 @@ import { byId, make, press, some, span, toldCount } from "./dom.js";
 import { cellNumber, stretchesOf } from "./cells.js";
 import { waysOf } from "./chart.js";
 
-const ALL_EVENTS = 20;
+const ALL_EVENTS = 20, ROWS_MOST = 400;
 let tableShown, tableChoose;
 
 export function setUpTable(choose) {
@@ -17,12 +17,11 @@ export function showTable(shown) {
   tableShown = shown;
   const n = shown.events.length;
   const ends = Array.from({ length: n }, (_, x) => make("option", { value: x + 1 }, `the stretches that end at event ${x + 1}`));
-  byId("rows").replaceChildren(make("option", { value: "some" }, "the stretches that are something"), ...n <= ALL_EVENTS ? [make("option", { value: "all" }, "all stretches")] : [], ...ends);
+  const all = n <= ALL_EVENTS ? [make("option", { value: "all" }, "all stretches")] : [];
+  byId("rows").replaceChildren(make("option", { value: "some" }, "the stretches that are something"), ...all, ...ends);
   if (n > ALL_EVENTS) byId("rows").value = n;
   fillTable();
 }
-
-const ROWS_MOST = 400;
 
 function fillTable() {
   const body = byId("table"), shown = tableShown, way = byId("rows").value;
@@ -30,9 +29,10 @@ function fillTable() {
   const n = shown.events.length, end = Number(way);
   const found = ([i, k]) => shown.cells[cellNumber(i, k)];
   const rows = stretchesOf(n).filter(stretch => way === "all" || (end ? stretch[1] === end : found(stretch).length));
+  const findings = (i, k) => found([i, k]).map(symbol => `${shown.names.long(symbol)} (${toldCount(waysOf(shown, i, k, symbol))})`);
   body.replaceChildren(...rows.slice(0, ROWS_MOST).map(([i, k]) => make("tr", {},
     make("th", { scope: "row" }, press(span(i, k), () => tableChoose(i, k), { class: "plain" })),
-    make("td", { class: "number" }, String(found([i, k]).length)),
-    make("td", {}, found([i, k]).map(symbol => `${shown.names.long(symbol)} (${toldCount(waysOf(shown, i, k, symbol))})`).join(", ") || "nothing"))));
-  byId("tableTold").textContent = rows.length > ROWS_MOST ? `The ${ROWS_MOST} longest of ${some(rows.length, "stretch", "stretches")}.` : `${some(rows.length, "stretch", "stretches")}.`;
+    make("td", { class: "number" }, String(found([i, k]).length)), make("td", {}, findings(i, k).join(", ") || "nothing"))));
+  const longest = rows.length > ROWS_MOST ? `The ${ROWS_MOST} longest of ` : "";
+  byId("tableTold").textContent = `${longest}${some(rows.length, "stretch", "stretches")}.`;
 }

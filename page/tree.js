@@ -51,14 +51,16 @@ export function drawTree(tree, { events, names }, different, label) {
   const size = [events.length * width + 2 * TREE_MARGIN, floor + 66];
   const svg = draw("svg", { class: "picture tree", viewBox: `0 0 ${size[0]} ${size[1]}`, role: "img", "aria-label": label });
   for (const node of nodesOf(tree)) {
-    for (const part of node.parts) svg.append(draw("path", { class: different.has(node) ? "edge differs" : "edge", d: `M${node.x} ${y(node) + 10}L${part.x} ${y(part) - 10}` }));
-    if (!node.parts.length) svg.append(draw("path", { class: "edge", d: `M${node.x} ${y(node) + 10}V${floor + 26}` }));
+    const words = different.has(node) ? "edge differs" : "edge", from = `M${node.x} ${y(node) + 10}`;
+    for (const part of node.parts) svg.append(draw("path", { class: words, d: `${from}L${part.x} ${y(part) - 10}` }));
+    if (!node.parts.length) svg.append(draw("path", { class: "edge", d: `${from}V${floor + 26}` }));
   }
   for (const node of nodesOf(tree)) {
     const name = cut(names.short(node.symbol), letters), half = Math.min(width - 6, name.length * 7 + 12) / 2;
+    const told = `${names.long(node.symbol)}, ${span(node.i, node.k)}, ${ruleText(node.rule, names)}`;
     svg.append(draw("g", { class: different.has(node) ? "node differs" : "node", "data-node": `${node.symbol} ${node.i} ${node.k}` },
       draw("rect", { x: node.x - half, y: y(node) - 10, width: 2 * half, height: 20, rx: 3 }),
-      draw("text", { x: node.x, y: y(node) + 4 }, name), draw("title", {}, `${names.long(node.symbol)}, ${span(node.i, node.k)}, ${ruleText(node.rule, names)}`)));
+      draw("text", { x: node.x, y: y(node) + 4 }, name), draw("title", {}, told)));
   }
   svg.append(...stripOf(events, names, width, floor + 42, TREE_MARGIN));
   return { svg, size };

@@ -4,7 +4,8 @@ import { refusalOf } from "./refusals.js";
 
 function verdictText({ admitted, events, names }) {
   const start = names.long(0);
-  if (!events.length) return admitted ? "Admitted: a record without events is proper by this grammar." : "Not admitted: the record has no events, and this grammar admits no quiet shift.";
+  if (!events.length && admitted) return "Admitted: a record without events is proper by this grammar.";
+  if (!events.length) return "Not admitted: the record has no events, and this grammar admits no quiet shift.";
   return admitted ? `Admitted: the whole record is ${start}.` : `Not admitted: the whole record is not ${start} by any reading.`;
 }
 
@@ -14,9 +15,10 @@ export function showVerdict(shown) {
   byId("verdict").textContent = verdictText(shown);
   byId("verdict").className = `verdict ${shown.admitted ? "yes" : "no"}`;
   byId("fault").replaceChildren();
+  const grammar = [some(shown.symbols, "symbol"), some(shown.leaves, "event rule"), some(shown.pairs, "pair rule")];
+  if (shown.flag) grammar.push("quiet shift admitted");
   byId("numbers").replaceChildren(fact("Readings", toldCount(shown.total), "total"), fact("Events", told(shown.events.length), "eventCount"),
-    fact("Findings", told(shown.items), "items"), fact("Firings", told(shown.firings), "firings"),
-    fact("Grammar", `${some(shown.symbols, "symbol")}, ${some(shown.leaves, "event rule")}, ${some(shown.pairs, "pair rule")}${shown.flag ? ", quiet shift admitted" : ""}`, "size"));
+    fact("Findings", told(shown.items), "items"), fact("Firings", told(shown.firings), "firings"), fact("Grammar", grammar.join(", "), "size"));
 }
 
 export function showRefusal(fault) {

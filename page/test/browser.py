@@ -30,7 +30,8 @@ class Browser:
 
     def check(self, what, found, expected=True):
         self.results.append(found == expected)
-        print(("ok: " if self.results[-1] else "FAILED: ") + what + ("" if self.results[-1] else f": {found!r:.600}, not {expected!r:.600}"), flush=True)
+        unequal = f": {repr(found)[:600]}, not {repr(expected)[:600]}"
+        print(f"ok: {what}" if self.results[-1] else f"FAILED: {what}{unequal}", flush=True)
 
     def open(self, link=""):
         self.driver.get("about:blank")
@@ -60,7 +61,9 @@ class Browser:
 
     def type(self, name, text, enter=False):
         """As if pasted, and then left: the whole text at once."""
-        self.js("const e = document.getElementById(arguments[0]); e.value = arguments[1]; e.dispatchEvent(new Event('change', { bubbles: true }))", name, text)
+        self.js("""const element = document.getElementById(arguments[0]);
+            element.value = arguments[1];
+            element.dispatchEvent(new Event("change", { bubbles: true }))""", name, text)
         if enter:
             self.at(name).send_keys(Keys.ENTER)
 

@@ -65,7 +65,8 @@ def firings(rules, events, table):
     _, leaves, pairs = rules
     n = len(events)
     found = sum(event == seen for _, event in leaves for seen in events)
-    return found + sum(b in table[i, j] and c in table[j, k] for i in range(n) for j in range(i + 1, n) for k in range(j + 1, n + 1) for _, b, c in pairs)
+    splits = [(i, j, k) for i in range(n) for j in range(i + 1, n) for k in range(j + 1, n + 1)]
+    return found + sum(b in table[i, j] and c in table[j, k] for i, j, k in splits for _, b, c in pairs)
 
 
 def scripts(rules, events):
