@@ -2,7 +2,7 @@
 import { GRAMMAR_READ, RECORD_READ } from "./input.js";
 import { NAMES_MOST } from "./names.js";
 
-const LINK_MOST = 120000, WAIT = 150;
+const LINK_MOST = 250000, WAIT = 150;
 
 const toText = bytes => btoa(String.fromCharCode(...bytes)).replaceAll("+", "-").replaceAll("/", "_").replaceAll("=", "");
 const toBytes = text => Uint8Array.from(atob(text.replaceAll("-", "+").replaceAll("_", "/")), letter => letter.charCodeAt(0));
@@ -48,5 +48,5 @@ export function keepLink(hash) {
 
 // open(hash) is called for a link that another hand has put in.
 export function followLink(opened) {
-  addEventListener("hashchange", () => { if (decodeURIComponent(location.hash) !== decodeURIComponent(written)) opened(location.hash); });
+  addEventListener("hashchange", () => { if (location.hash !== written) opened(location.hash); });
 }

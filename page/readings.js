@@ -7,7 +7,7 @@ import { newZoom, zoomButtons } from "./zoom.js";
 // A script has at most 382 words; of a longer text so many are enough to see that it is none.
 const KEPT = 64, SCRIPT_MOST = 400;
 let turnTo, askedReader, current, zooms;
-const kept = new Map();
+const kept = new Map(), lists = new Map();
 
 // turn(k, other) is called with numbers that exist; other is undefined where one reading is shown.
 export function setUpReadings(reader, turn) {
@@ -20,6 +20,13 @@ export function setUpReadings(reader, turn) {
   byId("two").addEventListener("change", () => go(current.k, byId("two").checked ? current.k + 1 : undefined));
   byId("other").addEventListener("change", () => go(current.k, Number(byId("other").value)));
   byId("find").addEventListener("click", findScript);
+  for (const id of ["words", "otherWords"]) byId(id).parentElement.addEventListener("toggle", () => fillWords(id));
+}
+
+// A script in words is made when it is looked at: it would take as long as the tree.
+function fillWords(id) {
+  const list = byId(id).parentElement.open && lists.get(id);
+  byId(id).replaceChildren(...list ? [list()] : []);
 }
 
 const within = (k, total) => Math.min(Math.max(0, Math.trunc(k) || 0), total - 1);
@@ -69,12 +76,14 @@ function showOne(shown, k, tree, different, [picture, words, numbers, title], zo
   byId(title).textContent = `Reading ${told(k)}`;
   if (!tree) {
     byId(picture).replaceChildren(make("p", { class: "quiet" }, "The quiet reading: no events, and an empty script."));
+    lists.delete(words);
     return [words, numbers].forEach(id => byId(id).replaceChildren());
   }
   const { svg, size } = drawTree(tree, shown, different, `Tree of reading ${told(k)}; its script in words says the same.`);
   byId(picture).replaceChildren(svg);
   zoom.take(...size);
-  byId(words).replaceChildren(treeList(tree, shown, different));
+  lists.set(words, () => treeList(tree, shown, different));
+  fillWords(words);
   const other = beside === undefined ? script : scriptOf(shown, beside).script;
   const marked = Array.from(script, (word, x) => word === other[x] ? [`${word} `] : [make("mark", {}, String(word)), " "]);
   byId(numbers).replaceChildren(...marked.flat());

@@ -1,5 +1,5 @@
 // A chart in its frame: drawn, zoomed, chosen from by pointer and by keys. Used for the record and for a session.
-import { byId, make, span } from "./dom.js";
+import { byId, capital, make, some, span } from "./dom.js";
 import { cellNumber, mostIn } from "./cells.js";
 import { fill, mark, newPicture } from "./picture.js";
 import { newZoom, zoomButtons } from "./zoom.js";
@@ -63,7 +63,8 @@ export function newView(frame, buttons, what, onchoose) {
 
 function hintOf({ cells, names }, cell) {
   const [i, k] = (cell.dataset.cell ?? cell.dataset.content).split(" ").map(Number);
-  return `${span(i, k)}: ${cells[cellNumber(i, k)].map(symbol => names.long(symbol)).join(", ") || "nothing"}`;
+  const found = cells[cellNumber(i, k)];
+  return `${capital(span(i, k))}, ${some(found.length, "finding")}${found.length ? ":" : ""} ${found.map(names.long).join(", ")}`;
 }
 
 export function showView(view, data, label, marked) {

@@ -192,7 +192,9 @@ def readings(b):
     b.check("first, last, previous", [first, last, b.text("script")], [expected[0], expected[-1], expected[-2]])
     b.type("k", "17")
     b.check("jump", b.text("script"), expected[17])
-    b.check("in words", b.all("#words li > span")[0].startswith("symbol 0, events 1 to 6: symbol 0 up to event"))
+    b.js("document.getElementById('words').parentElement.open = true")
+    time.sleep(.2)
+    b.check("in words", [len(b.all("#words li")), b.all("#words li > span")[0][:45]], [11, "symbol 0, events 1 to 6: symbol 0 up to event"])
     b.click("#two")
     b.type("other", "3")
     own, other = [set(b.all(f"#{tree} .node.differs", "data-node")) for tree in ("tree", "otherTree")]
@@ -257,6 +259,8 @@ def link(b):
     b.check("a link opens the same view", look(), before)
     b.until_shown(lambda: b.js("location.hash = arguments[0]", hash_.replace("k=11", "k=12")))
     b.check("a link put in by hand", b.text("readingTitle"), "Reading 12")
+    b.until_shown(lambda: b.js("location.hash = '#g=%E0%A4%A'"))
+    b.check("a link that is not understood", "not understood" in b.text("inputTold"))
     for wrong in ("#g=!!!", "#nonsense", "#g=RVNH&k=99999999999&s=9-1&a=77", "#g=%E0%A4%A"):
         b.open(wrong)
         b.check(f"link {wrong}", b.text("verdict") != "…")
