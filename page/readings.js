@@ -5,14 +5,15 @@ import { differing, drawTree, litBy, treeList, treeOf } from "./tree.js";
 import { newZoom, zoomButtons } from "./zoom.js";
 
 // A script has at most 382 words; of a longer text so many are enough to see that it is none.
-const KEPT = 64, SCRIPT_MOST = 400;
+const KEPT = 64, SCRIPT_MOST = 400, READABLE = .3;
 let turnTo, askedReader, current, zooms;
 const kept = new Map(), lists = new Map();
 
 // turn(k, other) is called with numbers that exist; other is undefined where one reading is shown.
 export function setUpReadings(reader, turn) {
   [askedReader, turnTo] = [reader, turn];
-  zooms = ["tree", "otherTree"].map(id => newZoom(byId(id)));
+  // letters that are too small to be read are left out, which makes it faster too
+  zooms = ["tree", "otherTree"].map(id => newZoom(byId(id), scale => byId(id).classList.toggle("far", scale < READABLE)));
   ["treeZoom", "otherZoom"].forEach((id, x) => byId(id).append(zoomButtons(zooms[x], "tree")));
   const steps = { first: () => 0, previous: k => k - 1, next: k => k + 1, last: () => LIMIT };
   for (const [id, step] of Object.entries(steps)) byId(id).addEventListener("click", () => go(step(current.k), current.other));
@@ -84,7 +85,8 @@ function showOne(shown, k, tree, different, [picture, words, numbers, title], zo
   zoom.take(...size);
   lists.set(words, () => treeList(tree, shown, different));
   fillWords(words);
-  const other = beside === undefined ? script : scriptOf(shown, beside).script;
+  if (beside === undefined) return byId(numbers).replaceChildren(script.join(" "));
+  const other = scriptOf(shown, beside).script;
   const marked = Array.from(script, (word, x) => word === other[x] ? [`${word} `] : [make("mark", {}, String(word)), " "]);
   byId(numbers).replaceChildren(...marked.flat());
 }

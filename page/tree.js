@@ -50,12 +50,16 @@ export function drawTree(tree, { events, names }, different, label) {
   const y = placed(tree, width), floor = HEAD + tree.height * STEP;
   const size = [events.length * width + 2 * TREE_MARGIN, floor + 66];
   const svg = draw("svg", { class: "picture tree", viewBox: `0 0 ${size[0]} ${size[1]}`, role: "img", "aria-label": label });
-  for (const node of nodesOf(tree)) {
-    const words = different.has(node) ? "edge differs" : "edge", from = `M${node.x} ${y(node) + 10}`;
-    for (const part of node.parts) svg.append(draw("path", { class: words, d: `${from}L${part.x} ${y(part) - 10}` }));
-    if (!node.parts.length) svg.append(draw("path", { class: "edge", d: `${from}V${floor + 26}` }));
+  // all edges of a kind are one path: a turn to another reading draws some hundred of them
+  const edges = ["", ""], nodes = nodesOf(tree);
+  for (const node of nodes) {
+    const kind = different.has(node) ? 1 : 0, from = `M${node.x} ${y(node) + 10}`;
+    for (const part of node.parts) edges[kind] += `${from}L${part.x} ${y(part) - 10}`;
+    if (!node.parts.length) edges[0] += `${from}V${floor + 26}`;
   }
-  for (const node of nodesOf(tree)) {
+  svg.append(draw("path", { class: "edge", d: edges[0] }));
+  if (edges[1]) svg.append(draw("path", { class: "edge differs", d: edges[1] }));
+  for (const node of nodes) {
     const name = cut(names.short(node.symbol), letters), half = Math.min(width - 6, name.length * 7 + 12) / 2;
     const told = `${names.long(node.symbol)}, ${span(node.i, node.k)}, ${ruleText(node.rule, names)}`;
     svg.append(draw("g", { class: different.has(node) ? "node differs" : "node", "data-node": `${node.symbol} ${node.i} ${node.k}` },

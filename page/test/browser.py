@@ -41,6 +41,17 @@ class Browser:
     def js(self, text, *words):
         return self.driver.execute_script(text, *words)
 
+    def work(self, text, *words):
+        """How many milliseconds of its processor a page takes for this, with the layout that follows; other programs do not count."""
+        def so_far():
+            metrics = self.driver.execute_cdp_cmd("Performance.getMetrics", {})["metrics"]
+            return next(metric["value"] for metric in metrics if metric["name"] == "TaskDuration")
+
+        self.driver.execute_cdp_cmd("Performance.enable", {"timeDomain": "threadTicks"})
+        before = so_far()
+        self.js(text + "; document.body.offsetHeight", *words)
+        return 1000 * (so_far() - before)
+
     def at(self, name):
         return self.driver.find_element(By.ID, name)
 

@@ -116,12 +116,10 @@ def largest(b):
     b.click('#chartZoom [data-zoom="fit"]')
     times = []
     for number in (4294967294, 1, 2147483648, 4294967293, 123456789, 4000000000):
-        times.append(b.js("""const from = performance.now(), k = document.getElementById("k"); k.value = arguments[0];
-            k.dispatchEvent(new Event("change")); document.body.offsetHeight; return performance.now() - from""", number))
+        times.append(b.work("""const k = document.getElementById("k"); k.value = arguments[0]; k.dispatchEvent(new Event("change"))""", number))
         b.check(f"reading {number}", [b.text("readingTitle"), len(b.text("script").split()), len(b.all("#tree .node"))],
                 [f"Reading {number:,}", 382, 191])
-    # the best of them: other programs may hold the processor meanwhile
-    b.check(f"to any reading within 100 ms ({', '.join(f'{time_:.0f}' for time_ in times)} ms)", min(times) < 100)
+    b.check(f"to any reading within 100 ms ({', '.join(f'{spent:.0f}' for spent in times)} ms)", min(times) < 100)
 
 
 def refusals(b):
