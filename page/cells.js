@@ -27,6 +27,9 @@ export function widest(stretches) {
 
 export const mostIn = cells => cells.reduce((most, found) => Math.max(most, found.length), 0);
 
+// The side of the square in which each symbol has its own place.
+export const sideOf = symbols => symbols <= 4 ? 2 : symbols <= 16 ? 4 : 8;
+
 // Colours go by how many findings a stretch has; these are the least numbers of each step.
 export const STEPS = [0, 1, 2, 3, 5, 9, 17, 33];
 export const stepOf = count => STEPS.findLastIndex(least => count >= least);

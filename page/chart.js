@@ -1,6 +1,7 @@
 // The record's chart on the page: the picture, its legend, the chosen stretch with all its findings, and the chosen symbol's stretches.
 import { byId, capital, draw, make, press, some, span, toldCount } from "./dom.js";
-import { STEPS, cellNumber, mostIn, stretchesWith, widest } from "./cells.js";
+import { STEPS, cellNumber, mostIn, sideOf, stretchesWith, widest } from "./cells.js";
+import { markPath } from "./picture.js";
 import { markView, namedAtFirst, newView, showView } from "./view.js";
 
 const LISTED = 12;
@@ -22,7 +23,7 @@ export function showChart(shown, chosen) {
   const { cells, events, names } = shown, n = events.length, way = byId("cellsShow").value;
   const named = way === "auto" ? namedAtFirst(cells, n) : way === "names";
   const label = `Chart of ${some(n, "event")}; the table below has the same.`;
-  showView(chartView, { cells, n, events, names, named }, label, markedOf(chosen));
+  showView(chartView, { cells, n, events, names, named, side: sideOf(shown.symbols) }, label, markedOf(chosen));
   const options = Array.from({ length: shown.symbols }, (_, symbol) => make("option", { value: symbol }, numbered(symbol, names)));
   byId("symbol").replaceChildren(make("option", { value: "" }, "none"), ...options);
   showLegend(shown, named);
@@ -97,7 +98,7 @@ function showLegend({ cells, symbols, names }, named) {
   byId("legend").replaceChildren(title, make("ul", { class: "swatches" }, ...items));
   if (named) return;
   const places = Array.from({ length: symbols }, (_, symbol) =>
-    make("li", {}, markSwatch(symbol), press(numbered(symbol, names), () => act.pick(symbol), { class: "plain" })));
+    make("li", {}, markSwatch(symbol, sideOf(symbols)), press(numbered(symbol, names), () => act.pick(symbol), { class: "plain" })));
   byId("legend").append(make("details", { open: symbols <= 16 }, make("summary", {}, "Which: each symbol's place in a cell"),
     make("ul", { class: "swatches places" }, ...places)));
 }
@@ -105,8 +106,5 @@ function showLegend({ cells, symbols, names }, named) {
 const swatch = words => draw("svg", { class: "picture swatch", width: 16, height: 16, "aria-hidden": "true" },
   draw("rect", { class: `cell ${words}`, x: 1.5, y: 1.5, width: 13, height: 13, rx: 2 }));
 
-function markSwatch(symbol) {
-  return draw("svg", { class: "picture swatch", width: 20, height: 20, "aria-hidden": "true" },
-    draw("rect", { class: "cell step1", x: 1, y: 1, width: 18, height: 18, rx: 2 }),
-    draw("rect", { class: "dot", x: 2 + 2 * (symbol % 8), y: 2 + 2 * (symbol >> 3), width: 2, height: 2 }));
-}
+const markSwatch = (symbol, side) => draw("svg", { class: "picture swatch", width: 20, height: 20, viewBox: "0 0 26 26", "aria-hidden": "true" },
+  draw("rect", { class: "cell step1", x: 1, y: 1, width: 24, height: 24, rx: 2 }), draw("path", { class: "dot", d: markPath(symbol, side) }));

@@ -1,10 +1,15 @@
 // The chart as a triangle: stretch (i, k) stands over the middle of its events, longer ones higher. A cell's colour tells how many findings
-// it has; in it stand all of their names, or a mark for each symbol at the symbol's own place in a square of eight by eight.
+// it has; in it stand all of their names, or a mark for each symbol at the symbol's own place in a square.
 import { cut, draw } from "./dom.js";
 import { cellNumber, mostIn, stepOf, stretchesOf } from "./cells.js";
 
 const LINE = 14, SIDE = 28, MARGIN = 10, NAME_MOST_SHOWN = 14;
-const markPath = symbol => `M${2.6 + 2.9 * (symbol % 8)} ${2.6 + 2.9 * (symbol >> 3)}h2.3v2.3h-2.3z`;
+
+// The mark of a symbol in a square cell of 26; side: how many marks stand beside each other.
+export function markPath(symbol, side) {
+  const step = 23.2 / side, size = (step * .8).toFixed(2), at = place => (1.6 + step * place).toFixed(2);
+  return `M${at(symbol % side)} ${at(Math.floor(symbol / side))}h${size}v${size}h-${size}z`;
+}
 
 // Where every cell stands. In a row of names each cell is as high as the fullest one.
 function placesOf({ cells, n, events, names, named }) {
@@ -24,7 +29,7 @@ function placesOf({ cells, n, events, names, named }) {
   };
 }
 
-// data: cells, n, events, names, named. The picture has every cell at once; what stands in the cells comes by fill.
+// data: cells, n, events, names, named, side. The picture has every cell at once; what stands in the cells comes by fill.
 export function newPicture(data, label) {
   const places = placesOf(data), [width, height] = places.whole;
   const stretches = stretchesOf(data.n), rects = [], contents = new Map(), inside = draw("g");
@@ -90,7 +95,7 @@ function contentOf(picture, i, k) {
     return group;
   }
   const by = new Map();
-  for (const symbol of found) by.set(kind(symbol), (by.get(kind(symbol)) ?? "") + markPath(symbol));
+  for (const symbol of found) by.set(kind(symbol), (by.get(kind(symbol)) ?? "") + markPath(symbol, picture.side));
   for (const [words, d] of by) group.append(draw("path", { class: words, d }));
   return group;
 }

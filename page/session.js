@@ -1,6 +1,6 @@
 // A session: events come one by one, the verdict is told after each, and the last one can be taken back.
 import { byId, capital, make, numbersOf, press, some, span } from "./dom.js";
-import { cellNumber, symbolsOf } from "./cells.js";
+import { cellNumber, sideOf, symbolsOf } from "./cells.js";
 import { eventsKnown } from "./grammar.js";
 import { refusalOf } from "./refusals.js";
 import { markView, namedAtFirst, newView, showView } from "./view.js";
@@ -94,7 +94,7 @@ function drawSession() {
     const heard = make("span", { class: "unseen" }, admitted ? " admitted" : " not admitted");
     return make("li", { class: admitted ? "yes" : "no" }, `${names.event(run.events[x])} ${admitted ? "✓" : "–"}`, heard);
   }));
-  const data = { cells, n, events: run.events, names, named: namedAtFirst(cells, n) };
+  const data = { cells, n, events: run.events, names, named: namedAtFirst(cells, n), side: sideOf(run.shown.symbols) };
   showView(sessionView, data, `Chart of the session's ${some(n, "event")}`, { column: n });
   byId("sessionCell").textContent = "";
 }

@@ -1,7 +1,7 @@
 // A picture in a frame that scrolls: fit the whole of it, or show it at the size at which it is read, or steps between.
 import { make, press } from "./dom.js";
 
-const LEAST = 0.02, MOST = 4, FIT_MOST = 1.5, SHARE = .68;
+const LEAST = 0.02, MOST = 4, FIT_MOST = 1.5, SHARE = .68, ENOUGH = .75;
 
 // frame: the element that scrolls, with one svg in it. onchange is told the scale after every change.
 export function newZoom(frame, onchange = () => {}) {
@@ -32,7 +32,9 @@ export function newZoom(frame, onchange = () => {}) {
   // a new picture keeps the way that was asked for, where one was
   zoom.take = (width, height, way = "whole") => {
     [zoom.width, zoom.height] = [width, height];
-    if (!zoom.asked) zoom.way = way;
+    if (zoom.room[0] <= 0) measure();
+    // where the whole is large enough to be read it is shown, whatever way was wished
+    if (!zoom.asked) zoom.way = zoom.room[1] / height >= ENOUGH ? "whole" : way;
     if (zoom.way) return zoom.fit();
     resize(zoom.scale);
     onchange(zoom.scale);
