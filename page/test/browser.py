@@ -2,6 +2,7 @@
 import base64
 import json
 import pathlib
+import shutil
 import tempfile
 import time
 
@@ -142,5 +143,6 @@ class Browser:
 
     def end(self):
         self.driver.quit()
+        shutil.rmtree(self.folder, ignore_errors=True)
         print(f"{sum(self.results)} passed, {len(self.results) - sum(self.results)} failed")
         return not self.results or not all(self.results)
