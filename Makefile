@@ -1,6 +1,6 @@
 SHELL := bash
 .SHELLFLAGS := -o pipefail -c
-.PHONY: run test bench compare soak clean
+.PHONY: run test page bench compare soak clean
 
 # Proves and builds the program, and lists the readings of three example records, and what it says of a misspelt grammar (examples/README.md).
 run:
@@ -13,6 +13,11 @@ run:
 # Every check there is; ends with 'N passed, M failed', and with status 0 exactly when all passed.
 test:
 	@tools/test
+
+# The inspector's page, one file.
+page:
+	@tools/page target/page
+	@echo target/page/chrysovend.html
 
 clean:
 	rm -rf target
