@@ -4,7 +4,8 @@ import { STEPS, cellNumber, mostIn, sideOf, stretchesWith, widest } from "./cell
 import { markPath } from "./picture.js";
 import { markView, namedAtFirst, newView, showView } from "./view.js";
 
-const LISTED = 12;
+// With more names than these a picture could be looked at in part, but neither be printed nor kept in reasonable time.
+const LISTED = 12, NAMED_MOST = 20000;
 let chartView, act;
 
 // actions: choose(i, k), pick(symbol); what is chosen is kept by the caller.
@@ -21,12 +22,14 @@ const markedOf = chosen => ({ chosen: chosen.stretch, symbol: chosen.symbol, lit
 
 export function showChart(shown, chosen) {
   const { cells, events, names } = shown, n = events.length, way = byId("cellsShow").value;
-  const named = way === "auto" ? namedAtFirst(cells, n) : way === "names";
+  const named = way === "auto" ? namedAtFirst(cells, n) : way === "names" && shown.items <= NAMED_MOST;
   const label = `Chart of ${some(n, "event")}; the table below has the same.`;
   showView(chartView, { cells, n, events, names, named, side: sideOf(shown.symbols) }, label, markedOf(chosen));
   const options = Array.from({ length: shown.symbols }, (_, symbol) => make("option", { value: symbol }, numbered(symbol, names)));
   byId("symbol").replaceChildren(make("option", { value: "" }, "none"), ...options);
   showLegend(shown, named);
+  const tooMany = make("p", { id: "tooMany" }, "More findings than can be written as names: marks stand for them.");
+  if (way === "names" && !named) byId("legend").prepend(tooMany);
   showChosen(shown, chosen);
 }
 

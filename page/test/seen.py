@@ -79,6 +79,8 @@ def sizes(b):
         events = [(x * x + x // 3) % 4 for x in range(count)]
         b.load(grammar=image(*rules), record=record(events))
         table = compared(b, f"ten symbols, {count}", rules, events)
+    near_names(b, image(*rules), events[:40], counted(rules, events[:40]))
+    b.load(record=record(events))
     b.until_shown(lambda: b.type("names", ""))
     cell = max(table, key=lambda stretch: (len(table[stretch]), stretch))
     b.js("document.querySelector(`#chart [data-cell='${arguments[0]}']`).dispatchEvent(new MouseEvent('click', { bubbles: true }))", "%d %d" % cell)
@@ -86,6 +88,21 @@ def sizes(b):
             [word for a in sorted(table[cell]) for word in (f"symbol {a}", told(min(LIMIT, table[cell][a])))])
     b.check("its events are marked", b.all("#chart .event.within", "data-place"), [str(x) for x in range(cell[0] + 1, cell[1] + 1)])
     largest(b)
+
+
+def near_names(b, grammar, events, table):
+    """Beyond 20 events names stand in the cells that are seen, where they are asked for."""
+    b.load(grammar=grammar, record=record(events), names=b"3 third\n")
+    b.choose("cellsShow", "names")
+    b.click('#chartZoom [data-zoom="read"]')
+    b.js("document.getElementById('chart').scrollTop = 1e6")
+    time.sleep(.3)
+    seen = b.js("""return [...document.querySelectorAll("#chart .content")].map(g =>
+        [g.dataset.content, [...g.querySelectorAll("text")].map(t => t.textContent)])""")
+    expected = [[cell, ["third" if a == 3 else str(a) for a in sorted(table[tuple(map(int, cell.split()))])]] for cell, _ in seen]
+    b.check("near: all names of the cells that are seen", [len(seen) > 10, seen], [True, expected])
+    b.choose("cellsShow", "what fits")
+    b.click('#chartZoom [data-zoom="fit"]')
 
 
 def largest(b):
@@ -102,10 +119,7 @@ def largest(b):
         [...g.querySelectorAll("path")].map(p => p.getAttribute("d")).join("").split("M").length - 1)""")
     b.check("near: a mark for every finding", [len(marks) > 50, set(marks)], [True, {64}])
     b.choose("cellsShow", "names")
-    b.click('#chartZoom [data-zoom="read"]')
-    b.js("document.getElementById('chart').scrollTop = 1e6")
-    time.sleep(.3)
-    b.check("near: all names", b.js("return document.querySelector('#chart .content').querySelectorAll('text').length"), 64)
+    b.check("too many for names", [b.all("#chart .content text"), b.text("tooMany")[:18]], [[], "More findings than"])
     b.choose("cellsShow", "what fits")
     b.click('#chartZoom [data-zoom="fit"]')
     times = []

@@ -46,6 +46,11 @@ def readings(b):
     b.click("#find")
     b.click("#found button")
     b.check("show it", b.text("script"), expected[30])
+    # thirty links: the last reading, in which every left part is as long as it can be, is far behind the limit
+    b.load(record=record([7] * 30))
+    b.type("pasted", " ".join([f"1 {x}" for x in range(29, 0, -1)] + [f"0 {x}" for x in range(1, 31)]))
+    b.click("#find")
+    b.check("a script behind the limit", b.text("found"), "A reading of this record; its number is 4,294,967,295 or more, and cannot be asked for.")
 
 
 def session(b):
@@ -151,4 +156,8 @@ def narrow(b):
     for width in (1300, 390):
         b.colours("light", width)
         b.check(f"nothing wider than {width}", b.js("return document.documentElement.scrollWidth <= innerWidth"))
-    b.colours("light")
+    grounds = []
+    for scheme in ("dark", "light"):
+        b.colours(scheme)
+        grounds.append(b.js("return getComputedStyle(document.body).backgroundColor"))
+    b.check("dark and light", grounds, ["rgb(20, 24, 29)", "rgb(246, 247, 245)"])
