@@ -159,6 +159,8 @@ def refusals(b):
 
 
 def chart(b):
+    b.load(grammar=CHAIN, record=record([7, 7, 9, 7]))
+    b.check("only stretches that lie in no other", b.all("#breaks li"), ["Events 1 to 2", "Event 4"])
     b.load(grammar=STOP, record=record([1, 2, 3, 9, 1, 2, 3]), names=NAMES)
     b.check("where it breaks", [b.all("#breaks li"), "No rule has the event at place 4 (9)." in b.text("breaks")],
             [["Events 1 to 3", "Events 5 to 7"], True])
