@@ -2,13 +2,16 @@ SHELL := bash
 .SHELLFLAGS := -o pipefail -c
 .PHONY: run test page bench compare soak clean
 
-# Proves and builds the program, and lists the readings of three example records, and what it says of a misspelt grammar (examples/README.md).
+# Proves and builds the program and the page, and lists the readings of three example records, and what the program says of a misspelt
+# grammar (examples/README.md). Each crate is told when it is proved, to a file or a pipe as well.
 run:
-	@rt check lister | grep '^rt:'
+	@rt check lister boundary | grep --line-buffered '^rt:'
+	@tools/page target/page
 	tools/run lister examples/stop.grammar examples/two-stops.events
 	tools/run lister examples/chain.grammar examples/four.events
 	tools/run lister examples/quiet.grammar examples/none.events
 	tools/run lister examples/misspelt.grammar examples/two-stops.events
+	@printf '\nThe same to look at, a file for any browser, offline: open\n%s\n' "$(CURDIR)/target/page/chrysovend.html"
 
 # Every check there is; ends with 'N passed, M failed', and with status 0 exactly when all passed.
 test:

@@ -96,7 +96,8 @@ function showLegend({ cells, symbols, names }, named) {
     const last = Math.min(most, (STEPS[x + 1] ?? 65) - 1);
     return make("li", {}, swatch(`step${x}`), least === 0 ? "nothing" : least === last ? String(least) : `${least} to ${last}`);
   });
-  items.push(make("li", {}, swatch("step0 lit"), "in the reading"), make("li", {}, swatch("step0 holds"), "the chosen symbol"));
+  const edges = { lit: "in the reading", other: "only in the one beside it", holds: "the chosen symbol" };
+  items.push(...Object.entries(edges).map(([kind, words]) => make("li", {}, swatch(`step0 ${kind}`), words)));
   const title = make("p", {}, "Findings in a stretch, all of them counted:");
   byId("legend").replaceChildren(title, make("ul", { class: "swatches" }, ...items));
   if (named) return;

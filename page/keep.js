@@ -36,7 +36,7 @@ export function allOf(shown, { k, other, stretch, symbol }) {
   const head = { format: "record-inspector 1", ...made, names: namesText };
   if (shown.refusal) return { ...head, refusal: shown.refusal, rule: shown.rule };
   const readings = [k, other].filter(number => number !== undefined && number < shown.total)
-    .map(number => ({ number, script: Array.from(scriptOf(shown, number).script) }));
+    .map(number => ({ number, script: Array.from(scriptOf(shown, number)) }));
   return {
     ...head, refusal: 0, verdict: shown.admitted ? "admitted" : "not admitted",
     counts: {

@@ -56,7 +56,7 @@ export function stripOf(events, names, width, y, margin) {
   });
 }
 
-// marked: chosen (i, k), symbol, lit: cell -> set of the symbols of a reading, column: the end of the column that has just come.
+// marked: chosen (i, k), symbol, lit: cell -> symbol -> lit or other, by the readings shown, column: the end of the column that has just come.
 export function mark(picture, marked) {
   picture.marked = marked;
   for (const [i, k] of picture.stretches) {
@@ -75,7 +75,7 @@ export function mark(picture, marked) {
 function wordsOf({ cells, marked: { chosen, symbol, lit, column } }, i, k) {
   const cell = cellNumber(i, k), found = cells[cell];
   let words = `cell step${stepOf(found.length)}`;
-  if (lit?.has(cell)) words += " lit";
+  if (lit?.has(cell)) words += ` ${[...new Set(lit.get(cell).values())].join(" ")}`;
   if (column === k) words += " came";
   if (symbol !== undefined && found.includes(symbol)) words += " holds";
   if (chosen && chosen[0] === i && chosen[1] === k) words += " chosen";
@@ -86,7 +86,7 @@ function wordsOf({ cells, marked: { chosen, symbol, lit, column } }, i, k) {
 function contentOf(picture, i, k) {
   const { names, named, marked } = picture, cell = cellNumber(i, k), found = picture.cells[cell];
   const { x, y, width, height } = picture.places.box(i, k), lit = marked.lit?.get(cell);
-  const kind = symbol => (lit?.has(symbol) ? "lit" : "") + (symbol === marked.symbol ? " holds" : "");
+  const kind = symbol => (lit?.get(symbol) ?? "") + (symbol === marked.symbol ? " holds" : "");
   const group = draw("g", { class: "content", transform: `translate(${x} ${y})`, "data-content": `${i} ${k}` });
   if (named) {
     const first = (height - found.length * LINE) / 2 + 10.5;

@@ -1,4 +1,4 @@
-// The ten services of c/reader.h in WebAssembly: plain data in, plain data out. docs/REFERENCE.md says what each does and when it refuses.
+// Services of c/reader.h in WebAssembly, those that the page asks: plain data in, plain data out. docs/REFERENCE.md says what each does.
 // What is lent for a call lies behind the module's own memory, and no address outlives the call; the instance is the only state.
 
 // An argument that is not a number is an array: a slice passes as an address and a length in elements, a reference as an address alone.
@@ -87,37 +87,22 @@ function overRecords(call, tableFor) {
   return { judge, count };
 }
 
-// A script is given where there is no refusal, and else is empty.
 function overReadings(call, tableFor) {
-  const reading = (image, events, k) => {
-    const room = u16(scriptWords(events.length)), rule = u16();
-    const refusal = call("reading", imageOf(image), recordOf(events), k, slice(tableFor(image, events)), slice(room), reference(rule));
-    return { refusal, rule: rule[0], script: refusal ? u16(0) : room };
-  };
+  // the scripts are none where it is refused
   const page = (image, events, k, m) => {
     const words = scriptWords(events.length), room = u16(m * words), rule = u16(), written = u32();
     const refusal = call("page", imageOf(image), recordOf(events), k, m, slice(tableFor(image, events)), slice(room),
       reference(rule), reference(written));
     const scripts = Array.from({ length: written[0] }, (_, x) => room.slice(x * words, (x + 1) * words));
-    return { refusal, rule: rule[0], written: written[0], scripts };
-  };
-  return { reading, page };
-}
-
-function overScripts(call, tableFor) {
-  const scriptOf = script => slice(Uint16Array.from(script));
-  const check = (image, events, script) => {
-    const rule = u16(), yes = u8();
-    const refusal = call("check", imageOf(image), recordOf(events), scriptOf(script), reference(rule), reference(yes));
-    return { refusal, rule: rule[0], yes: yes[0] === 1 };
+    return { refusal, rule: rule[0], scripts };
   };
   const number = (image, events, script) => {
     const rule = u16(), reading = u32();
-    const refusal = call("number", imageOf(image), recordOf(events), scriptOf(script), slice(tableFor(image, events)),
+    const refusal = call("number", imageOf(image), recordOf(events), slice(Uint16Array.from(script)), slice(tableFor(image, events)),
       reference(rule), reference(reading));
     return { refusal, rule: rule[0], reading: reading[0] };
   };
-  return { check, number };
+  return { page, number };
 }
 
 // A session goes in as it is and comes back as another one.
@@ -151,5 +136,5 @@ export async function open(bytes) {
   const { instance } = await WebAssembly.instantiate(bytes, {});
   const call = callerOf(instance.exports);
   const { test, tableFor } = overImages(call);
-  return { test, ...overRecords(call, tableFor), ...overReadings(call, tableFor), ...overScripts(call, tableFor), ...overSessions(call) };
+  return { test, ...overRecords(call, tableFor), ...overReadings(call, tableFor), ...overSessions(call) };
 }

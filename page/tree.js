@@ -25,10 +25,15 @@ export function differing(tree, other) {
   return new Set(nodesOf(tree).filter(node => !kept.has(nodeKey(node))));
 }
 
-// cell -> symbols, for lighting the tree's nodes in the chart
-export function litBy(tree) {
+// cell -> symbol -> how the chart lights it: the tree's nodes, and those that only the other tree has
+export function litBy(tree, other) {
   const lit = new Map();
-  for (const { i, k, symbol } of nodesOf(tree)) lit.set(cellNumber(i, k), new Set([symbol]));
+  const light = (kind, { i, k, symbol }) => {
+    const cell = cellNumber(i, k);
+    lit.set(cell, (lit.get(cell) ?? new Map()).set(symbol, kind));
+  };
+  for (const node of nodesOf(other)) light("other", node);
+  for (const node of nodesOf(tree)) light("lit", node);
   return lit;
 }
 
@@ -43,31 +48,42 @@ function placed(tree, width) {
   return node => HEAD + (tree.height - node.height) * STEP;
 }
 
-// Gives the picture and its size. different: the nodes to be marked.
-export function drawTree(tree, { events, names }, different, label) {
-  const written = [...nodesOf(tree).map(node => names.short(node.symbol)), ...Array.from(events, names.event)];
+// The picture for all trees of a record: the events at its foot stay, so that a turn to another reading is immediate.
+export function newTreePicture({ events, names, symbols }) {
+  const written = [...Array.from({ length: symbols }, (_, symbol) => names.short(symbol)), ...Array.from(events, names.event)];
   const letters = Math.min(14, Math.max(4, ...written.map(name => name.length))), width = letters * 7 + 16;
-  const y = placed(tree, width), floor = HEAD + tree.height * STEP;
-  const size = [events.length * width + 2 * TREE_MARGIN, floor + 66];
-  const svg = draw("svg", { class: "picture tree", viewBox: `0 0 ${size[0]} ${size[1]}`, role: "img", "aria-label": label });
-  // all edges of a kind are one path: a turn to another reading draws some hundred of them
-  const edges = ["", ""], nodes = nodesOf(tree);
+  const inside = draw("g"), strip = draw("g", {}, ...stripOf(events, names, width, 42, TREE_MARGIN));
+  const svg = draw("svg", { class: "picture tree", role: "img" }, inside, strip);
+  return { svg, inside, strip, letters, width, whole: events.length * width + 2 * TREE_MARGIN };
+}
+
+// All edges of a kind are one path: a turn to another reading draws some hundred of them.
+function edgesOf(nodes, y, floor, different) {
+  const edges = ["", ""];
   for (const node of nodes) {
     const kind = different.has(node) ? 1 : 0, from = `M${node.x} ${y(node) + 10}`;
     for (const part of node.parts) edges[kind] += `${from}L${part.x} ${y(part) - 10}`;
     if (!node.parts.length) edges[0] += `${from}V${floor + 26}`;
   }
-  svg.append(draw("path", { class: "edge", d: edges[0] }));
-  if (edges[1]) svg.append(draw("path", { class: "edge differs", d: edges[1] }));
-  for (const node of nodes) {
+  const drawn = [draw("path", { class: "edge", d: edges[0] })];
+  return edges[1] ? [...drawn, draw("path", { class: "edge differs", d: edges[1] })] : drawn;
+}
+
+// Draws a tree into the picture, and gives its size. different: the nodes to be marked.
+export function drawTree({ svg, inside, strip, letters, width, whole }, tree, names, different, label) {
+  const y = placed(tree, width), floor = HEAD + tree.height * STEP, nodes = nodesOf(tree), size = [whole, floor + 66];
+  const drawn = nodes.map(node => {
     const name = cut(names.short(node.symbol), letters), half = Math.min(width - 6, name.length * 7 + 12) / 2;
     const told = `${names.long(node.symbol)}, ${span(node.i, node.k)}, ${ruleText(node.rule, names)}`;
-    svg.append(draw("g", { class: different.has(node) ? "node differs" : "node", "data-node": `${node.symbol} ${node.i} ${node.k}` },
+    return draw("g", { class: different.has(node) ? "node differs" : "node", "data-node": `${node.symbol} ${node.i} ${node.k}` },
       draw("rect", { x: node.x - half, y: y(node) - 10, width: 2 * half, height: 20, rx: 3 }),
-      draw("text", { x: node.x, y: y(node) + 4 }, name), draw("title", {}, told)));
-  }
-  svg.append(...stripOf(events, names, width, floor + 42, TREE_MARGIN));
-  return { svg, size };
+      draw("text", { x: node.x, y: y(node) + 4 }, name), draw("title", {}, told));
+  });
+  inside.replaceChildren(...edgesOf(nodes, y, floor, different), ...drawn);
+  svg.setAttribute("viewBox", `0 0 ${size[0]} ${size[1]}`);
+  svg.setAttribute("aria-label", label);
+  strip.setAttribute("transform", `translate(0 ${floor})`);
+  return size;
 }
 
 // The script in words: a list in a list, so that it is heard in the same order as it is read.

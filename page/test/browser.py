@@ -42,16 +42,25 @@ class Browser:
     def js(self, text, *words):
         return self.driver.execute_script(text, *words)
 
-    def work(self, text, *words):
-        """How many milliseconds of its processor a page takes for this, with the layout that follows; other programs do not count."""
+    def spent(self, act):
+        """How many milliseconds of its processor the page takes for this, with the layout that follows; other programs do not count."""
         def so_far():
             metrics = self.driver.execute_cdp_cmd("Performance.getMetrics", {})["metrics"]
             return next(metric["value"] for metric in metrics if metric["name"] == "TaskDuration")
 
         self.driver.execute_cdp_cmd("Performance.enable", {"timeDomain": "threadTicks"})
         before = so_far()
-        self.js(text + "; document.body.offsetHeight", *words)
+        act()
+        self.js("document.body.offsetHeight")
         return 1000 * (so_far() - before)
+
+    def until(self, found, expected):
+        """What is found in the end: a check of what comes only with the next frame."""
+        for _ in range(100):
+            if found() == expected:
+                break
+            time.sleep(.05)
+        return found()
 
     def at(self, name):
         return self.driver.find_element(By.ID, name)
@@ -123,9 +132,11 @@ class Browser:
         self.driver.execute_cdp_cmd("Emulation.setEmulatedMedia", {"features": [{"name": "prefers-color-scheme", "value": scheme}]})
         self.driver.execute_cdp_cmd("Emulation.setDeviceMetricsOverride", {"width": width, "height": height, "deviceScaleFactor": 1, "mobile": False})
 
-    def picture(self, path):
-        size = self.js("return [innerWidth, document.documentElement.scrollHeight]")
-        clip = {"x": 0, "y": 0, "width": size[0], "height": size[1], "scale": 1}
+    def picture(self, path, first="body", last="body"):
+        """From the top of one thing to the foot of another, in the whole width."""
+        width, top, foot = self.js("""const [first, last] = [...arguments].map(name => document.querySelector(name).getBoundingClientRect());
+            return [innerWidth, first.top + scrollY, last.bottom + scrollY]""", first, last)
+        clip = {"x": 0, "y": top, "width": width, "height": foot - top, "scale": 1}
         answer = self.driver.execute_cdp_cmd("Page.captureScreenshot", {"captureBeyondViewport": True, "clip": clip})
         pathlib.Path(path).write_bytes(base64.b64decode(answer["data"]))
 

@@ -1,7 +1,7 @@
 #!/usr/bin/python3
 """inspector_test.py PAGE [PICTURES]: a built page in Chromium, used as an inspector does. Ends with 'N passed, M failed'.
 
-With PICTURES, a folder, the page is also kept there as PNG, at two widths and in both colours."""
+With PICTURES, a folder, the page is also kept there as PNG, at two widths and in both colours, and README's picture of it."""
 import pathlib
 import sys
 import time
@@ -32,6 +32,10 @@ def pictures(b, folder):
                 time.sleep(.3)
                 b.picture(folder / f"{name}-{width}-{scheme}.png")
         b.colours("light")
+    b.open()
+    b.colours("light", 1000)
+    b.click("#chart [data-cell='0 3']")
+    b.picture(folder / "page.png", "section:nth-of-type(2)", "#tree")
 
 
 def main():

@@ -1,6 +1,5 @@
 """What an inspector does: turns to readings, runs a session, opens links, and keeps what is found."""
 import json
-import time
 import xml.etree.ElementTree as ElementTree
 
 from images import CHAIN, CHAIN_RULES, STOP, STOP_RULES, counted, record, scripts
@@ -25,14 +24,17 @@ def readings(b):
     b.type("k", "17")
     b.check("jump", b.text("script"), expected[17])
     b.js("document.getElementById('words').parentElement.open = true")
-    time.sleep(.2)
-    b.check("in words", [len(b.all("#words li")), b.all("#words li > span")[0][:45]], [11, "symbol 0, events 1 to 6: symbol 0 up to event"])
+    b.check("every node in words", b.until(lambda: len(b.all("#words li")), 11), 11)
+    b.check("in words", b.all("#words li > span")[0][:45], "symbol 0, events 1 to 6: symbol 0 up to event")
     b.click("#two")
     b.type("other", "3")
     own, other = [set(b.all(f"#{tree} .node.differs", "data-node")) for tree in ("tree", "otherTree")]
     b.check("two side by side", [b.text("otherScript"), bool(own), bool(other), b.text("differ")[:14]], [expected[3], True, True, "They differ in"])
     unequal = sum(x != y for x, y in zip(expected[17].split(), expected[3].split()))
     b.check("differing words of the scripts", [len(b.all("#script mark")), len(b.all("#otherScript mark"))], [unequal, unequal])
+    own, other = [{node.split(" ", 1)[1] for node in b.all(f"#{tree} .node", "data-node")} for tree in ("tree", "otherTree")]
+    b.check("both are lit in the chart", [set(b.all("#chart .cell.lit", "data-cell")), set(b.all("#chart .cell.other", "data-cell"))],
+            [own, other - own])
     b.type("other", "17")
     b.check("the same twice", [b.text("differ"), b.all("#tree .differs")], ["The same reading twice.", []])
     b.click("#two")
@@ -86,7 +88,7 @@ def link(b):
     b.type("other", "5")
     b.choose("symbol", "0 Kettenstück é")
     b.click('#chart [data-cell="1 4"]')
-    time.sleep(.5)
+    b.check("the link has the view", b.until(lambda: "s=1-4" in b.js("return location.hash"), True))
 
     def look():
         return [*map(b.text, ("verdict", "script", "otherScript", "stretch", "sumGrammar", "sumRecord")), b.at("symbol").get_attribute("value")]
