@@ -31,8 +31,12 @@ const titleOf = ({ sums }, what) => `${what}; grammar ${sums.grammar}, record ${
 
 // Numbers of 64 bits stand as decimal texts: a JSON number would lose the low digits.
 export function allOf(shown, { k, other, stretch, symbol }) {
-  const { sums, recordSize, grammarSize, namesText } = shown;
-  const made = { grammar: { sha256: sums.grammar, bytes: grammarSize }, record: { sha256: sums.record, bytes: recordSize } };
+  const { grammar, record, sums, recordSize, grammarSize, namesText } = shown;
+  // of a longer file the first bytes decide, and the checksum is of these
+  const made = {
+    grammar: { sha256: sums.grammar, ofFirst: grammar.length, bytes: grammarSize },
+    record: { sha256: sums.record, ofFirst: record.length, bytes: recordSize },
+  };
   const head = { format: "record-inspector 1", ...made, names: namesText };
   if (shown.refusal) return { ...head, refusal: shown.refusal, rule: shown.rule };
   const readings = [k, other].filter(number => number !== undefined && number < shown.total)

@@ -1,4 +1,4 @@
-//! What the functions answer: a refusal's number, or 0 for success, the rule at fault, and then the
+//! What the functions answer: the refusal, or 0 for success, the rule at fault, and then the
 //! rest in the order of the C function.
 //!
 //! A yes or no is taken as a byte, so that one that is neither 0 nor 1 is seen. Before a call each
@@ -15,14 +15,14 @@ const UNLIKELY: u32 = 0x5A5A_5A5A;
 macro_rules! answer {
     ($name:ident { $($part:ident: $type:ty = $before:expr),* }) => {
         pub struct $name {
-            pub number: u8,
+            pub refusal: u8,
             pub rule: u16,
             $(pub $part: $type),*
         }
 
         impl $name {
             pub const UNWRITTEN: Self = $name {
-                number: 0,
+                refusal: 0,
                 // No refusal names this rule.
                 rule: u16::MAX,
                 $($part: $before),*

@@ -90,7 +90,7 @@ pub type SessionChart = [u64; 528];
 pub fn test(image: &[u8]) -> Tested {
     let mut answer = Tested::UNWRITTEN;
     // SAFETY: as said of every call.
-    answer.number = unsafe {
+    answer.refusal = unsafe {
         reader_test(
             image.as_ptr(),
             image.len(),
@@ -113,7 +113,7 @@ pub fn reading(
 ) -> Read {
     let mut answer = Read::UNWRITTEN;
     // SAFETY: as said of every call.
-    answer.number = unsafe {
+    answer.refusal = unsafe {
         reader_reading(
             image.as_ptr(),
             image.len(),
@@ -141,7 +141,7 @@ pub fn page(
 ) -> Paged {
     let mut answer = Paged::UNWRITTEN;
     // SAFETY: as said of every call.
-    answer.number = unsafe {
+    answer.refusal = unsafe {
         reader_page(
             image.as_ptr(),
             image.len(),
@@ -164,7 +164,7 @@ pub fn page(
 pub fn check(image: &[u8], events: &[u16], script: &[u16]) -> Checked {
     let mut answer = Checked::UNWRITTEN;
     // SAFETY: as said of every call.
-    answer.number = unsafe {
+    answer.refusal = unsafe {
         reader_check(
             image.as_ptr(),
             image.len(),
@@ -183,7 +183,7 @@ pub fn check(image: &[u8], events: &[u16], script: &[u16]) -> Checked {
 pub fn number(image: &[u8], events: &[u16], script: &[u16], table: &mut [u32]) -> Numbered {
     let mut answer = Numbered::UNWRITTEN;
     // SAFETY: as said of every call.
-    answer.number = unsafe {
+    answer.refusal = unsafe {
         reader_number(
             image.as_ptr(),
             image.len(),
@@ -210,7 +210,7 @@ pub fn begin(chart: &mut SessionChart, count: &mut u64) {
 pub fn add(image: &[u8], chart: &mut SessionChart, count: &mut u64, event: u16) -> Added {
     let mut answer = Added::UNWRITTEN;
     // SAFETY: as said of every call.
-    answer.number = unsafe {
+    answer.refusal = unsafe {
         reader_add(
             image.as_ptr(),
             image.len(),

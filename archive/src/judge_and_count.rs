@@ -38,7 +38,7 @@ macro_rules! judge_and_count {
         pub fn judge(image: &[u8], events: &[u16], chart: &mut [u64]) -> $crate::answers::Judged {
             let mut answer = $crate::answers::Judged::UNWRITTEN;
             // SAFETY: as said of every call.
-            answer.number = unsafe {
+            answer.refusal = unsafe {
                 c_judge(
                     image.as_ptr(),
                     image.len(),
@@ -59,7 +59,7 @@ macro_rules! judge_and_count {
         pub fn count(image: &[u8], events: &[u16], table: &mut [u32]) -> $crate::answers::Counted {
             let mut answer = $crate::answers::Counted::UNWRITTEN;
             // SAFETY: as said of every call.
-            answer.number = unsafe {
+            answer.refusal = unsafe {
                 c_count(
                     image.as_ptr(),
                     image.len(),

@@ -16,7 +16,7 @@ fn refusal(number: u8, rule: u16) -> Refusal {
 impl From<answers::Judged> for Judged {
     fn from(judged: answers::Judged) -> Self {
         Judged {
-            refusal: refusal(judged.number, judged.rule),
+            refusal: refusal(judged.refusal, judged.rule),
             admitted: yes(judged.admitted),
             items: judged.items,
             firings: judged.firings,
@@ -27,7 +27,7 @@ impl From<answers::Judged> for Judged {
 impl From<answers::Added> for Added {
     fn from(added: answers::Added) -> Self {
         Added {
-            refusal: refusal(added.number, added.rule),
+            refusal: refusal(added.refusal, added.rule),
             admitted: yes(added.admitted),
             firings: added.firings,
         }
@@ -37,7 +37,7 @@ impl From<answers::Added> for Added {
 impl From<answers::Counted> for Counted {
     fn from(counted: answers::Counted) -> Self {
         Counted {
-            refusal: refusal(counted.number, counted.rule),
+            refusal: refusal(counted.refusal, counted.rule),
             total: counted.total,
         }
     }
@@ -45,14 +45,14 @@ impl From<answers::Counted> for Counted {
 
 impl From<answers::Read> for Refusal {
     fn from(read: answers::Read) -> Self {
-        refusal(read.number, read.rule)
+        refusal(read.refusal, read.rule)
     }
 }
 
 impl From<answers::Paged> for Paged {
     fn from(paged: answers::Paged) -> Self {
         Paged {
-            refusal: refusal(paged.number, paged.rule),
+            refusal: refusal(paged.refusal, paged.rule),
             written: paged.written,
         }
     }
@@ -61,7 +61,7 @@ impl From<answers::Paged> for Paged {
 impl From<answers::Numbered> for Numbered {
     fn from(numbered: answers::Numbered) -> Self {
         Numbered {
-            refusal: refusal(numbered.number, numbered.rule),
+            refusal: refusal(numbered.refusal, numbered.rule),
             reading: numbered.reading,
         }
     }
@@ -70,7 +70,7 @@ impl From<answers::Numbered> for Numbered {
 impl From<answers::Checked> for Checked {
     fn from(checked: answers::Checked) -> Self {
         Checked {
-            refusal: refusal(checked.number, checked.rule),
+            refusal: refusal(checked.refusal, checked.rule),
             yes: yes(checked.yes),
         }
     }

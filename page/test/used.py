@@ -137,7 +137,8 @@ def keep(b):
     b.check("all as JSON", [kept[name] for name in ("verdict", "chart", "events", "readings")],
             ["admitted", words, [1, 2, 3] * 2, [{"number": 0, "script": scripts(STOP_RULES, (1, 2, 3) * 2)[0]}]])
     b.check("counts in JSON", kept["counts"], {"readings": 1, "orMore": False, "events": 6, "findings": "13", "firings": "13"})
-    b.check("checksums in JSON", [kept["grammar"]["sha256"], kept["record"]["sha256"]], [b.text("sumGrammar"), b.text("sumRecord")])
+    b.check("checksums in JSON", [kept["grammar"], kept["record"]], [
+        {"sha256": b.text("sumGrammar"), "ofFirst": 31, "bytes": 31}, {"sha256": b.text("sumRecord"), "ofFirst": 12, "bytes": 12}])
     paper = b.driver.execute_cdp_cmd("Page.printToPDF", {})["data"]
     b.check("a page for paper", len(paper) > 20000)
     b.js("window.print = () => { window.printed = true; }")

@@ -33,8 +33,16 @@ framed-set old l b n A v f h = record {
 pub framed-wider : (a b : List ℕ) (base n m : ℕ) → n ≤ m → Framed a b base n → Framed a b base m
 framed-wider a b base n m l f = record { long = f .long; before = f .before; after = λ x h. f .after x (omega arith) }
 
+-- a row in a row
+pub framed-within : (a b c : List ℕ) (base n at m : ℕ) → base ≤ at → at + m ≤ base + n → Framed a b base n → Framed b c at m → Framed a c base n
+framed-within a b c base n at m low high f h = record {
+  long = h .long ∙ f .long;
+  before = λ x p. h .before x (omega arith) ∙ f .before x p;
+  after = λ x p. h .after x (omega arith) ∙ f .after x p;
+}
+
 pub framed-on : (a b c : List ℕ) (base n : ℕ) → Framed a b base n → Framed b c base n → Framed a c base n
-framed-on a b c base n f h = record { long = h .long ∙ f .long; before = λ x p. h .before x p ∙ f .before x p; after = λ x p. h .after x p ∙ f .after x p }
+framed-on a b c base n = framed-within a b c base n base n (omega arith) (omega arith)
 
 pub zeros-none : (l : List ℕ) (b : ℕ) → Zeros l b 0
 zeros-none l b = record { at = λ x h. absurd (omega arith) }

@@ -66,8 +66,7 @@ module _ (q : ℕ) (g : Grammar) (w : List ℕ) (some : 0 < length w) (before : 
   unfolding flagged firings columnFirings cellFirings pairFirings eventFirings
   answered-flagged a = record {
     chart = record { at = λ A i k l h. tells-flagged q g w A i k _ (a .chart .at A i k l h) };
-    past = a .past;
-    long = a .long;
+    frame = a .frame;
     admitted = decides-as (r .admitted) (admitted-flagged q g w some) (flagged-admitted q g w some) (a .admitted);
     items = λ s t. a .items s (unflagged s t);
     firings = λ s t. a .firings s (unflagged s t);

@@ -53,8 +53,7 @@ module _ (g : Grammar) (ok : Sound g) (w c₀ c : List ℕ) (m : ℕ) (whole : C
       → r .items ≡ onesTo c (cells (length w)) → r .firings ≡ m → Answered g w c₀ r c
   answer r l a i f = record {
     chart = shows;
-    past = whole .past;
-    long = l;
+    frame = record { long = l; before = λ y h. absurd (omega arith); after = λ y h. whole .past y (omega arith) };
     admitted = verdict (r .admitted) a;
     items = λ s t. i ∙ items-are g w c₀ c m whole ok ∙ sym (items-told g w s t);
     firings = λ s t. f ∙ firings-are g w c₀ c m whole ∙ sym (firings-told g w s t);
@@ -99,10 +98,10 @@ judged-eq r s a m b c d = λ i. record { refusal = a i; rule = m i; admitted = b
 
 module _ (b w c₀ : List ℕ) (r s : Judged) (c d : List ℕ) where
   pub chart-only : Answered (decode b) w c₀ r c → Answered (decode b) w c₀ s d → c ≡ d
-  chart-only p q = ext-getD 0 c d (p .long ∙ sym (q .long)) (λ y l. go y (decLe (cells (length w)) y))
+  chart-only p q = ext-getD 0 c d (p .frame .long ∙ sym (q .frame .long)) (λ y l. go y (decLe (cells (length w)) y))
     where
       go : (y : ℕ) → Dec (cells (length w) ≤ y) → getD c y 0 ≡ getD d y 0
-      go y (yes h) = p .past y h ∙ sym (q .past y h)
+      go y (yes h) = p .frame .after y (omega arith) ∙ sym (q .frame .after y (omega arith))
       go y (no h) = shows-only (decode b) w c d (p .chart) (q .chart) y (lt-of-not-le h)
 
   -- the result, and every word of the chart

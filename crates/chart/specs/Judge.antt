@@ -8,6 +8,7 @@ use Prim.Native.Nat.{ℕ, _≤_, _<_}
 use lib.ListN.{length, getD}
 use Rattle.bits.specs.Truth.{Decides}
 use Rattle.bits.specs.Bit.{bit}
+use Rattle.bits.specs.Frame.{Framed}
 use Rattle.derivation.specs.Grammar.{Grammar, pairCount}
 use Rattle.derivation.specs.Reading.{Admitted}
 use Rattle.derivation.specs.Numbering.{Tells, Telling}
@@ -38,8 +39,7 @@ pub record Refused (before : List ℕ) (r : Judged) (after : List ℕ) : Type 0 
 -- success: the chart of g and w, and what is counted, whatever s tells what is derivable; words past those needed keep their values
 pub record Answered (g : Grammar) (w before : List ℕ) (r : Judged) (after : List ℕ) : Type 0 where
   pub chart : Shows g w after
-  pub past : (y : ℕ) → cells (length w) ≤ y → getD after y 0 ≡ getD before y 0
-  pub long : length after ≡ length before
+  pub frame : Framed before after 0 (cells (length w))
   pub admitted : Decides (r .admitted) (Admitted g w)
   pub items : (s : Findings) → Telling g w s → r .items ≡ items (g .symbols) (length w) s
   pub firings : (s : Findings) → Telling g w s → r .firings ≡ firings g w s

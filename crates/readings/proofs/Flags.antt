@@ -39,7 +39,7 @@ module _ (q : ℕ) (g : Grammar) (w : List ℕ) where
 
   filled-flagged : (t u : List ℕ) → Filled g w t u → Filled (flagged q g) w t u
   unfolding flagged
-  filled-flagged t u f = record { long = f .long; counts = λ A i k l h m. f .counts A i k l h m ∙ ap held (sym (count-same A i k)); past = f .past }
+  filled-flagged t u f = record { frame = f .frame; counts = λ A i k l h m. f .counts A i k l h m ∙ ap held (sym (count-same A i k)) }
 
   module _ (some : 0 < length w) where
     many-same : howMany (flagged q g) w ≡ howMany g w

@@ -10,26 +10,21 @@ use lib.ListN.{length, getD, set}
 use lib.Seq.{getD-set-same, getD-set-other}
 use Rattle.bits.specs.Sum.{sum, between}
 use Rattle.bits.specs.Frame.{Framed, Zeros}
-use Rattle.bits.proofs.Frames.{framed-none, framed-set}
+use Rattle.bits.proofs.Frames.{framed-none, framed-set, framed-within}
 use Rattle.bits.proofs.Truths.{same-eq, same-other}
 use Rattle.bits.proofs.Sums.{sum-more, between-cong}
 use Rattle.derivation.specs.Grammar.{Grammar, eventRule, pairRule}
 use Rattle.lookup.specs.declared.Leaf.{Leaf}
 use Rattle.lookup.specs.declared.Pair.{Pair}
 use Rattle.lookup.specs.Rule.{LeafIs, PairIs}
-use Rattle.table.specs.Table.{held, slotOf}
-use Rattle.table.specs.Fill.{splitAdds, pairAdds, leafAdds, Summed, Kept}
+use Rattle.table.specs.Table.{held, slotOf, tableWords}
+use Rattle.table.specs.Fill.{splitAdds, pairAdds, leafAdds, Summed}
 use Rattle.table.proofs.Held.{held-on}
-use Rattle.table.proofs.Slots.{slot-before, slot-after}
+use Rattle.table.proofs.Slots.{slot-before, slot-after, cell-fits}
 
-pub kept-none : (l : List ℕ) (m : ℕ) → Kept l l m
-kept-none l m = record { long = refl; past = λ x h. refl }
-
-pub kept-on : (a b c : List ℕ) (m base n : ℕ) → Kept a b m → Framed b c base n → base + n ≤ m → Kept a c m
-kept-on a b c m base n f h l = record { long = h .long ∙ f .long; past = λ x p. h .after x (omega arith) ∙ f .past x p }
-
-pub kept-join : (a b c : List ℕ) (m : ℕ) → Kept a b m → Kept b c m → Kept a c m
-kept-join a b c m f h = record { long = h .long ∙ f .long; past = λ x p. h .past x p ∙ f .past x p }
+-- a cell's words are among those that the record needs
+pub framed-cell : (N i k n : ℕ) (a b c : List ℕ) → i < k → k ≤ n → Framed a b 0 (tableWords N n) → Framed b c (slotOf N 0 i k) N → Framed a c 0 (tableWords N n)
+framed-cell N i k n a b c l h = let t = cell-fits N i k n l h in framed-within a b c 0 (tableWords N n) (slotOf N 0 i k) N (omega arith) (omega arith)
 
 -- ---- a sum over the rules, rule r adding F A r to the word of A
 module _ (F : ℕ → ℕ → ℕ) (base N : ℕ) where

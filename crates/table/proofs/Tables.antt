@@ -15,7 +15,7 @@ use Rattle.derivation.specs.Derivations.{readings}
 use Rattle.derivation.specs.Sound.{Sound}
 use Rattle.derivation.proofs.Readings.{count-events}
 use Rattle.table.specs.Table.{held, slotOf, tableWords, Filled}
-use Rattle.table.specs.Fill.{leafAdds, pairAdds, Summed, CellDone, Done, Kept, CountsIn}
+use Rattle.table.specs.Fill.{leafAdds, pairAdds, Summed, CellDone, Done, CountsIn}
 use Rattle.table.proofs.Slots.{slot-word, slot-before, slot-after, slot-of}
 use Rattle.bits.specs.Frame.{Framed}
 use Rattle.bits.proofs.Frames.{framed-on}
@@ -74,11 +74,11 @@ module _ (g : Grammar) (w : List ℕ) where
   done-none t = record { at = λ A a b s l h low. absurd (omega arith) }
 
   -- ---- the whole
-  pub filled : (old t : List ℕ) → Done g w t 0 (length w) → Kept old t (tableWords (g .symbols) (length w)) → Filled g w old t
-  filled old t d k = record { long = k .long; counts = λ A i k s l h. d .at A i k s l h (λ e. omega arith); past = k .past }
+  pub filled : (old t : List ℕ) → Done g w t 0 (length w) → Framed old t 0 (tableWords (g .symbols) (length w)) → Filled g w old t
+  filled old t d k = record { frame = k; counts = λ A i k s l h. d .at A i k s l h (λ e. omega arith) }
 
   pub counts-in : (old t : List ℕ) → tableWords (g .symbols) (length w) ≤ length old → Filled g w old t → CountsIn g w t
-  counts-in old t h f = record { fits = rw (f .long) h; at = f .counts }
+  counts-in old t h f = record { fits = rw (f .frame .long) h; at = f .counts }
 
   -- the word for the whole record is the number of its readings
   pub total-is : (t : List ℕ) → CountsIn g w t → 0 < g .symbols → 0 < length w → getD t (slotOf (g .symbols) 0 0 (length w)) 0 ≡ held (length (readings g w))
@@ -86,9 +86,9 @@ module _ (g : Grammar) (w : List ℕ) where
 
   -- two tables that are filled from one are the same
   pub filled-only : (old a b : List ℕ) → 0 < g .symbols → Filled g w old a → Filled g w old b → a ≡ b
-  filled-only old a b pos f h = ext-getD 0 a b (f .long ∙ sym (h .long)) (λ x _. ⊎-elim
+  filled-only old a b pos f h = ext-getD 0 a b (f .frame .long ∙ sym (h .frame .long)) (λ x _. ⊎-elim
       (λ (l : x < tableWords (g .symbols) (length w)).
       let s = slot-of (g .symbols) (length w) x pos l in
       rw (← (s .is)) (f .counts (s .A) (s .i) (s .k) (s .symbol) (s .low) (s .high) ∙ sym (h .counts (s .A) (s .i) (s .k) (s .symbol) (s .low) (s .high))))
-      (λ (l : tableWords (g .symbols) (length w) ≤ x). f .past x l ∙ sym (h .past x l))
+      (λ (l : tableWords (g .symbols) (length w) ≤ x). f .frame .after x (omega arith) ∙ sym (h .frame .after x (omega arith)))
       (lt-or-ge x (tableWords (g .symbols) (length w))))

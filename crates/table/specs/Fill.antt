@@ -57,11 +57,6 @@ pub record CellDone (g : Grammar) (w : List ℕ) (i k : ℕ) (old new : List ℕ
 pub record Done (g : Grammar) (w t : List ℕ) (i k : ℕ) : Type 0 where
   pub at : (A a b : ℕ) → A < g .symbols → a < b → b ≤ k → (b ≡ k → i ≤ a) → Right g w t A a b
 
--- no word from m on has changed
-pub record Kept (old new : List ℕ) (m : ℕ) : Type 0 where
-  pub long : length new ≡ length old
-  pub past : (x : ℕ) → m ≤ x → getD new x 0 ≡ getD old x 0
-
 -- the table has the words that the record needs, and they are its counts
 pub record CountsIn (g : Grammar) (w t : List ℕ) : Type 0 where
   pub fits : tableWords (g .symbols) (length w) ≤ length t

@@ -4,6 +4,7 @@ use mathlib.Core.Path.{_≡_}
 use mathlib.Core.List.{List}
 use Prim.Native.Nat.{ℕ, _+_, _*_, _≤_, _<_, min}
 use lib.ListN.{length, getD}
+use Rattle.bits.specs.Frame.{Framed}
 use Rattle.derivation.specs.Grammar.{Grammar}
 use Rattle.derivation.specs.Chart.{cellAt, cells}
 use Rattle.derivation.specs.Derivations.{count}
@@ -24,6 +25,5 @@ tableWords N n = N * cells n
 
 -- before became after: each word that is needed is the number of derivations, held at the limit, and no other changed
 pub record Filled (g : Grammar) (w before after : List ℕ) : Type 0 where
-  pub long : length after ≡ length before
+  pub frame : Framed before after 0 (tableWords (g .symbols) (length w))
   pub counts : (A i k : ℕ) → A < g .symbols → i < k → k ≤ length w → getD after (slotOf (g .symbols) A i k) 0 ≡ held (count g w A i k)
-  pub past : (x : ℕ) → tableWords (g .symbols) (length w) ≤ x → getD after x 0 ≡ getD before x 0

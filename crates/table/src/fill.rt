@@ -14,7 +14,7 @@ ghost use Rattle.bits.specs.Frame.{Framed, Zeros};
 ghost use Rattle.marks.specs.Mark.{Apart, Told};
 ghost use Rattle.marks.specs.Shown.{InUse, Lefts, Shown};
 ghost use Rattle.table.specs.Table.{held, slotOf, tableWords, Filled};
-ghost use Rattle.table.specs.Fill.{pairAdds, leafAdds, Summed, CellDone, Done, Kept, Parts, Nonzero};
+ghost use Rattle.table.specs.Fill.{pairAdds, leafAdds, Summed, CellDone, Done, Parts, Nonzero};
 
 // Neighbouring rules are alike, so that one in so many is asked whether its symbols are crowded.
 const SAMPLE: usize = 8;
@@ -210,7 +210,7 @@ fn fill_cells(
     requires { ⌜ (k ≤ length (now events)) × (length (now events) < 65536) × (tableWords (decode (now image) .symbols) (length (now events)) ≤ length (now table)) ⌝ }
     requires { ⌜ Shown (decode (now image) .symbols) (known (decode (now image)) (now events)) (now lefts) (now rights) k k ⌝ }
     ensures { λ _. ⌜ Done (decode (now (image .entry))) (now (events .entry)) (now (table .exit)) 0 k
-        × Kept (now (table .entry)) (now (table .exit)) (tableWords (decode (now (image .entry)) .symbols) (length (now (events .entry))))
+        × Framed (now (table .entry)) (now (table .exit)) 0 (tableWords (decode (now (image .entry)) .symbols) (length (now (events .entry))))
         × Shown (decode (now (image .entry)) .symbols) (known (decode (now (image .entry))) (now (events .entry))) (now (lefts .exit)) (now (rights .exit)) 0 k ⌝ }
 {
     let mut i = k;
@@ -227,7 +227,7 @@ fn fill_column(image: &[u8], events: &[u16], table: &mut [u32], lefts: &mut [u64
     requires { ⌜ (k ≤ length (now events)) × (length (now events) < 65536) × (tableWords (decode (now image) .symbols) (length (now events)) ≤ length (now table)) ⌝ }
     requires { ⌜ (InUse (now lefts) → Lefts (decode (now image) .symbols) (known (decode (now image)) (now events)) (now lefts) k k) ⌝ }
     ensures { λ _. ⌜ Done (decode (now (image .entry))) (now (events .entry)) (now (table .exit)) 0 k
-        × Kept (now (table .entry)) (now (table .exit)) (tableWords (decode (now (image .entry)) .symbols) (length (now (events .entry))))
+        × Framed (now (table .entry)) (now (table .exit)) 0 (tableWords (decode (now (image .entry)) .symbols) (length (now (events .entry))))
         × (InUse (now (lefts .exit)) → Lefts (decode (now (image .entry)) .symbols) (known (decode (now (image .entry))) (now (events .entry))) (now (lefts .exit)) 0 k) ⌝ }
 {
     if lefts.len() < marks::LEFTS {

@@ -4,13 +4,15 @@ use mathlib.Core.Path.{_≡_, refl, _∙_}
 use Prim.Native.Nat.{_+_, _-_, _≤_, _<_}
 use native.Mathlib.Nat.{le-trans}
 use lib.ListN.{length}
+use Rattle.bits.specs.Frame.{Framed}
+use Rattle.bits.proofs.Frames.{framed-none}
 use Rattle.derivation.specs.Derivations.{known}
 use Rattle.layout.specs.Layout.{decode}
 use Rattle.marks.specs.Shown.{Shown}
 use Rattle.table.specs.Table.{tableWords}
-use Rattle.table.specs.Fill.{Done, Kept}
-use Rattle.table.proofs.Slots.{words-on, cell-fits}
-use Rattle.table.proofs.Cells.{kept-none, kept-on}
+use Rattle.table.specs.Fill.{Done}
+use Rattle.table.proofs.Slots.{words-on}
+use Rattle.table.proofs.Cells.{framed-cell}
 use Rattle.table.proofs.Tables.{done-on}
 use borrow.Author.Needs.{needs}
 use native.Mathlib.Omega.{arith}
@@ -19,14 +21,14 @@ use Rattle.table.proofs.fill.fill_cells.Tie as tie
 
 abbrev Inv-loop : tie.InvT-loop
 Inv-loop image events table₀ lefts₀ rights₀ k i₀ table lefts rights i =
-    (i ≤ k) × Done (decode image) events table i k × Kept table₀ table (tableWords (decode image .symbols) (length events))
+    (i ≤ k) × Done (decode image) events table i k × Framed table₀ table 0 (tableWords (decode image .symbols) (length events))
     × (length lefts ≡ length lefts₀) × (length rights ≡ length rights₀) × Shown (decode image .symbols) (known (decode image) events) lefts rights i k
 
 abbrev μ-loop : tie.MeasureT-loop
 μ-loop image events table₀ lefts₀ rights₀ k i₀ table lefts rights i = i
 
 loop-holds : tie.Need-loop-holds Inv-loop μ-loop
-loop-holds c = let p = c .before .before .before .before .before .pre .1 in (omega arith, p .0, kept-none _ _, refl, refl, p .1 .1)
+loop-holds c = let p = c .before .before .before .before .before .pre .1 in (omega arith, p .0, framed-none _ _ _, refl, refl, p .1 .1)
 
 sub-i : tie.Need-sub-i Inv-loop μ-loop
 sub-i c = search needs
@@ -61,7 +63,7 @@ loop-again c =
     let e : l .loop .i - 1 + 1 ≡ l .loop .i = omega (arith, t) in (
       omega (arith, lt),
       done-on _ _ _ _ _ _ lt (rw e (v .1)) h,
-      kept-on _ _ _ _ _ _ (v .2) (h .frame) (cell-fits _ _ _ _ lt (s .pre .1 .1 .0 .0)),
+      framed-cell _ _ _ _ _ _ _ lt (s .pre .1 .1 .0 .0) (v .2) (h .frame),
       f .kept .1 .1 .1 .0 ∙ v .3,
       f .kept .1 .1 .1 .1 .0 ∙ v .4,
       f .ensures .1,

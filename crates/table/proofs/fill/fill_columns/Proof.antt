@@ -3,13 +3,14 @@
 use mathlib.Core.Path.{_≡_, refl, _∙_}
 use Prim.Native.Nat.{_+_, _-_, _≤_, _<_}
 use lib.ListN.{length}
+use Rattle.bits.specs.Frame.{Framed}
+use Rattle.bits.proofs.Frames.{framed-none, framed-on}
 use Rattle.derivation.specs.Derivations.{known}
 use Rattle.layout.specs.Layout.{decode}
 use Rattle.marks.specs.Shown.{InUse, Lefts}
 use Rattle.marks.proofs.Shows.{lefts-next}
 use Rattle.table.specs.Table.{tableWords}
-use Rattle.table.specs.Fill.{Done, Kept}
-use Rattle.table.proofs.Cells.{kept-none, kept-join}
+use Rattle.table.specs.Fill.{Done}
 use Rattle.table.proofs.Tables.{done-none, column-start, filled}
 use borrow.Author.Needs.{needs}
 use native.Mathlib.Omega.{arith}
@@ -18,14 +19,14 @@ use Rattle.table.proofs.fill.fill_columns.Tie as tie
 
 abbrev Inv-loop : tie.InvT-loop
 Inv-loop image events table₀ lefts₀ k₀ table lefts k =
-    (k ≤ length events) × Done (decode image) events table 0 k × Kept table₀ table (tableWords (decode image .symbols) (length events))
+    (k ≤ length events) × Done (decode image) events table 0 k × Framed table₀ table 0 (tableWords (decode image .symbols) (length events))
     × (length lefts ≡ length lefts₀) × (InUse lefts → (k < 96 → Lefts (decode image .symbols) (known (decode image) events) lefts (k + 1) (k + 1)))
 
 abbrev μ-loop : tie.MeasureT-loop
 μ-loop image events table₀ lefts₀ k₀ table lefts k = length events - k
 
 loop-holds : tie.Need-loop-holds Inv-loop μ-loop
-loop-holds c = (omega arith, done-none _ _ _, kept-none _ _, refl, λ there l. c .before .before .before .before .pre .1 .1 there .1)
+loop-holds c = (omega arith, done-none _ _ _, framed-none _ _ _, refl, λ there l. c .before .before .before .before .pre .1 .1 there .1)
 
 add-k : tie.Need-add-k Inv-loop μ-loop
 add-k c = search needs
@@ -55,7 +56,7 @@ loop-again c =
     let f = c .before .before .before .before .fill-column in (
       omega (arith, c .before .before .before .before .before .before .before .loop-test .taken),
       f .ensures .0,
-      kept-join _ _ _ _ (v .2) (f .ensures .1),
+      framed-on _ _ _ _ _ (v .2) (f .ensures .1),
       f .kept .1 .1 .1 .0 ∙ v .3,
       λ there h. lefts-next _ _ _ _ h (f .ensures .2 there),
     )

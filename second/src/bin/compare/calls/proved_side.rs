@@ -7,33 +7,33 @@ pub const PROVED: Side = Side {
         let tested = archive::test(image);
         let counts = [tested.symbols, tested.leaves, tested.pairs];
         let rest = counts.map(|count| count as u64);
-        answer(tested.number, tested.rule, rest)
+        answer(tested.refusal, tested.rule, rest)
     },
     judge: |image, events, chart| {
         let judged = archive::judge(image, events, chart);
         let rest = [judged.admitted.into(), judged.items, judged.firings];
-        answer(judged.number, judged.rule, rest)
+        answer(judged.refusal, judged.rule, rest)
     },
     count: |image, events, table| {
         let counted = archive::count(image, events, table);
-        answer(counted.number, counted.rule, [counted.total.into(), 0, 0])
+        answer(counted.refusal, counted.rule, [counted.total.into(), 0, 0])
     },
     reading: |image, events, k, table, script| {
         let read = archive::reading(image, events, k, table, script);
-        answer(read.number, read.rule, [0; 3])
+        answer(read.refusal, read.rule, [0; 3])
     },
     check: |image, events, script| {
         let checked = archive::check(image, events, script);
-        answer(checked.number, checked.rule, [checked.yes.into(), 0, 0])
+        answer(checked.refusal, checked.rule, [checked.yes.into(), 0, 0])
     },
     number: |image, events, script, table| {
         let numbered = archive::number(image, events, script, table);
         let rest = [numbered.reading.into(), 0, 0];
-        answer(numbered.number, numbered.rule, rest)
+        answer(numbered.refusal, numbered.rule, rest)
     },
     page: |image, events, k, m, table, room| {
         let paged = archive::page(image, events, k, m, table, room);
-        answer(paged.number, paged.rule, [paged.written.into(), 0, 0])
+        answer(paged.refusal, paged.rule, [paged.written.into(), 0, 0])
     },
     begin: |chart, count| {
         archive::begin(chart, count);
@@ -42,7 +42,7 @@ pub const PROVED: Side = Side {
     add: |image, chart, count, event| {
         let added = archive::add(image, chart, count, event);
         let rest = [added.admitted.into(), added.firings, 0];
-        answer(added.number, added.rule, rest)
+        answer(added.refusal, added.rule, rest)
     },
     take_back: |chart, count| {
         let number = archive::take_back(chart, count);
