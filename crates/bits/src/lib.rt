@@ -1,4 +1,6 @@
 // A word as a set of numbers below 64: a bit is tested, put in or taken out, all are counted, the first one is found.
+#![tactic(auto)]
+
 ghost use Rattle.std.specs.Prelude.{◌≡◌, ◌≤◌, ◌<◌};
 ghost use Rattle.bits.specs.Sum.{sum};
 ghost use Rattle.bits.specs.Bit.{bit};

@@ -1,5 +1,7 @@
 // The services as C functions, for Rust and C to link. A slice passes as a pointer and a length; each answers its number, and the rest of
 // its answer through references. A session passes as its words and its count, and is written in place. The contracts are those of the services.
+#![tactic(auto)]
+
 ghost use Rattle.std.specs.Prelude.{◌≡◌};
 ghost use Rattle.layout.specs.Layout.{decode};
 ghost use Rattle.image.specs.Image.{image_rows, TestedIs};

@@ -1,5 +1,7 @@
 // Judging, counting and one reading as C functions over bytes, for controllers: events and results low byte first. A slice passes as a
 // pointer and a length; each answers its number, and the rest of its answer through references.
+#![tactic(auto)]
+
 mod refuse; // the refusals
 mod services; // what the C functions answer
 

@@ -1,4 +1,5 @@
 // Judges a record: fills the chart of a grammar image over events, column by column, and answers verdict, items and firings.
+#![tactic(auto)]
 
 ghost use Rattle.std.specs.Prelude.{◌≡◌, false, ◌≤◌, ◌<◌, ◌^◌, length};
 ghost use Rattle.derivation.specs.Chart.{cells};
@@ -8,7 +9,7 @@ ghost use Rattle.chart.specs.Judge.{JudgeIs};
 ghost use Rattle.chart.specs.Demand.{Judgeable};
 
 // What judging answers: a refusal with zeros, or 0 with the verdict, the items and the firings. The rule is that of 6 and 7, else 0.
-#[derive(Drop)]
+#[derive(Clone, Copy)]
 pub struct Judged {
     pub refusal: u8,
     pub rule: u16,

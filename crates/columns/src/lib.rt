@@ -1,4 +1,6 @@
 // Cells and columns: each column from the words of the older ones as they stand.
+#![tactic(auto)]
+
 ghost use Rattle.std.specs.Prelude.{◌≡◌, ◌+◌, ◌≤◌, ◌<◌, ◌^◌, length};
 ghost use Rattle.derivation.specs.Grammar.{event_rule_count};
 ghost use Rattle.derivation.specs.Chart.{cells_before, cell_at, cells};

@@ -3,10 +3,10 @@
 -- Assumes nothing.
 use mathlib.Core.Path.{◌≡◌}
 use mathlib.Core.List.{List}
-use Prim.Native.Nat.{ℕ, ◌<◌}
+use Prim.Native.Nat.{ℕ, ◌-◌, ◌<◌}
 use native.Mathlib.Omega.{arith}
 use lib.ListN.{length}
-use Rattle.derivation.specs.Grammar.{Grammar, flagged}
+use Rattle.derivation.specs.Grammar.{Grammar, flagged, event_rule_count, pair_rule}
 use Rattle.derivation.specs.Tree.{Tree, leaf, node, Derives, script}
 use Rattle.derivation.specs.Reading.{Reading, quiet, derived, Reads, Admitted, spelling, IsReading}
 use Rattle.derivation.specs.Live.{Reached, start, left, right, Live}
@@ -27,8 +27,8 @@ module _ (q : ℕ) (g : Grammar) (w : List ℕ) where
       record { rule = d.rule; symbol = d.symbol; event = d.event; inside = d.inside; end = d.end; place = d.place }
   derives_flagged A i k (node r j t u) d = (
     record { low = d.0.low; high = d.0.high; symbol = d.0.symbol; after = d.0.after; before = d.0.before },
-    derives_flagged _ i j t d.1,
-    derives_flagged _ j k u d.2,
+    derives_flagged (pair_rule g (r - event_rule_count g)).left i j t d.1,
+    derives_flagged (pair_rule g (r - event_rule_count g)).right j k u d.2,
   )
 
   -- a record with events

@@ -1,5 +1,7 @@
 // What a grammar derives: the definitions are in specs/, their laws in proofs/. The only code says where a cell stands, how many there are,
 // and how many words a script has.
+#![tactic(auto)]
+
 ghost use Rattle.std.specs.Prelude.{◌≡◌, ◌<◌};
 ghost use Rattle.derivation.specs.Tree.{script_word_count};
 ghost use Rattle.derivation.specs.Chart.{cell_at, cells};

@@ -1,4 +1,6 @@
 // Along a script, down to shorter and shorter stretches: whether its words are the script of a reading.
+#![tactic(auto)]
+
 ghost use Rattle.std.specs.Prelude.{◌≡◌, ◌+◌, ◌-◌, ◌≤◌, ◌<◌, length};
 ghost use Rattle.bits.specs.Truth.{Decides};
 ghost use Rattle.derivation.specs.Tree.{LeafOk, NodeOk, script_word_count, Spells};

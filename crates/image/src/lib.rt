@@ -1,4 +1,6 @@
 // The grammar image: its test by refusals 1 to 7 and 15, and the test that every service over a record begins with.
+#![tactic(auto)]
+
 mod refuse; // the rows of the refusal table
 
 ghost use Rattle.std.specs.Prelude.{◌≡◌, ◌≤◌, length};
@@ -14,14 +16,14 @@ pub const LONGEST_IMAGE: usize = layout::HEADER_BYTES
     + 3 * (refuse::MOST_LEAVES + refuse::MOST_PAIRS);
 
 // The number of a refusal, or 0, and the first rule at fault: that of 6 and 7, with every other number 0.
-#[derive(Drop)]
+#[derive(Clone, Copy)]
 pub struct Refusal {
     pub refusal: u8,
     pub rule: u16,
 }
 
 // What a test answers: a refusal with zeros, or 0 with N, L and B.
-#[derive(Drop)]
+#[derive(Clone, Copy)]
 pub struct Tested {
     pub refusal: u8,
     pub rule: u16,

@@ -1,4 +1,6 @@
 // The rules over words: the event rules over an event, the pair rules over the words of two cells, and over marks all splits at once.
+#![tactic(auto)]
+
 ghost use Rattle.std.specs.Prelude.{◌≡◌, ◌+◌, ◌*◌, ◌≤◌, ◌<◌, ◌^◌, length};
 ghost use Rattle.bits.specs.Truth.{same};
 ghost use Rattle.bits.specs.Word.{meet};
@@ -11,7 +13,7 @@ ghost use Rattle.marks.specs.Mark.{Told, SeenIn};
 ghost use Rattle.kernel.specs.Apply.{Applied, ready_words, ReadyAt, Ready, over, along};
 
 // A cell's word so far, and the matches counted so far.
-#[derive(Drop)]
+#[derive(Clone, Copy)]
 pub struct Fired {
     pub word: u64,
     pub count: u64,

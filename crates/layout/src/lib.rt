@@ -1,4 +1,6 @@
 // The bytes of a grammar image, and in them the counts and the rules of the grammar that they show.
+#![tactic(auto)]
+
 ghost use Rattle.std.specs.Prelude.{◌≡◌, ◌+◌, ◌-◌, ◌<◌, ◌≤◌, length};
 ghost use Rattle.derivation.specs.Grammar.{event_rule_count, pair_rule_count, rule_total, event_rule, pair_rule, rule_symbol};
 ghost use Rattle.layout.specs.Layout.{header_bytes, byte_in, word_in, version_in, first_rule_at, rule_in, decode};

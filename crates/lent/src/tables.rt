@@ -8,7 +8,7 @@ ghost use Rattle.lent.specs.Lent.{LendsTable, TakenIs};
 use readings::Paged;
 
 // A page, and how many readings there are, held at the limit.
-#[derive(Drop)]
+#[derive(Clone, Copy)]
 pub struct Taken {
     pub paged: Paged,
     pub total: u32,

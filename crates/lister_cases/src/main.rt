@@ -5,6 +5,8 @@
 // cannot be reached, on a record that is too long, and no rule, where a quiet shift is proper. Each refusal of a record, and what is just accepted. Two
 // refusals at once, a table that just holds the longest record, and longer files, endless ones too. A file that is missing, or has no name. A folder, and a
 // file that may not be read.
+#![tactic(auto)]
+
 const RUNS: usize = 54;
 
 fn main() {

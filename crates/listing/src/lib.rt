@@ -1,4 +1,6 @@
 // What the program writes, as bytes: a refusal, or how many readings a record has and the first of them; or that a file is not there.
+#![tactic(auto)]
+
 mod refuse; // the refusals
 mod lines; // a line for each script
 

@@ -1,5 +1,7 @@
 // Dead symbols: whether every symbol derives some events by the rules, and whether every one can be reached from symbol 0 through them. Each is the
 // search for a set of symbols, a word, which goes round the pair rules until a round adds nothing.
+#![tactic(auto)]
+
 ghost use Rattle.std.specs.Prelude.{◌≤◌};
 ghost use Rattle.bits.specs.Truth.{Every, Decides};
 ghost use Rattle.bits.specs.Word.{Has};
@@ -12,7 +14,7 @@ ghost use Rattle.live.specs.declared.Sought.TheVariants.{Deriving, Reachable};
 ghost use Rattle.live.specs.Search.{Meets, Stays, Starts, Grown, Exactly};
 
 // What is sought: the symbols that derive some events, or those that can be reached.
-#[derive(Drop)]
+#[derive(Clone, Copy)]
 enum Sought {
     Deriving,
     Reachable,

@@ -1,4 +1,6 @@
 // The rules of an accepted image, each read whole.
+#![tactic(auto)]
+
 ghost use Rattle.std.specs.Prelude.{◌≡◌, ◌<◌};
 ghost use Rattle.bits.specs.Truth.{Decides};
 ghost use Rattle.derivation.specs.Grammar.{event_rule_count, pair_rule_count};
@@ -6,13 +8,13 @@ ghost use Rattle.layout.specs.Layout.{decode};
 ghost use Rattle.image.specs.Accepted.{Accepted};
 ghost use Rattle.lookup.specs.Rule.{LeafIs, Turns, PairIs};
 
-#[derive(Drop)]
+#[derive(Clone, Copy)]
 pub struct Leaf {
     pub symbol: usize,
     pub event: usize,
 }
 
-#[derive(Drop)]
+#[derive(Clone, Copy)]
 pub struct Pair {
     pub symbol: usize,
     pub left: usize,

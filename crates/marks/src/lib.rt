@@ -1,4 +1,6 @@
 // Marks: at which splits a symbol stands, as sets, so that only what stands is visited.
+#![tactic(auto)]
+
 ghost use Rattle.std.specs.Prelude.{◌≡◌, true, ◌+◌, ◌*◌, ◌≤◌, ◌<◌, length, get_or, set};
 ghost use Rattle.std.specs.Int.Bits.{bit_or};
 ghost use Rattle.marks.specs.Mark.{meetings, Apart, SeenIn, CommonIs, Told, Entered, Marked};

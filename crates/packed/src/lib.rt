@@ -1,4 +1,6 @@
 // Words of 16, 32 and 64 bits as bytes, the low byte first.
+#![tactic(auto)]
+
 ghost use Rattle.std.specs.Prelude.{◌≡◌, ◌+◌, ◌*◌, ◌/◌, ◌≤◌, length, take};
 ghost use Rattle.packed.specs.Packed.{words};
 ghost use Rattle.packed.specs.Put.{PutWord, PutWords};

@@ -1,4 +1,6 @@
 // Readings in a row: the first by its number, and each other from the one before it. The table has to be filled.
+#![tactic(auto)]
+
 mod next; // what comes behind a rule and a split
 mod step; // from a script to the next
 

@@ -9,7 +9,7 @@ ghost use Rattle.pages.specs.Step.{first_by, SplitIs, NextIs};
 use unrank::choose::Plan;
 
 // The first split with which two symbols add something, or none.
-#[derive(Drop)]
+#[derive(Clone, Copy)]
 pub struct Split {
     pub found: bool,
     pub split: usize,
@@ -43,7 +43,7 @@ fn next_split(
 }
 
 // The plan of the derivation that follows, or none.
-#[derive(Drop)]
+#[derive(Clone, Copy)]
 pub struct Next {
     pub found: bool,
     pub plan: Plan,

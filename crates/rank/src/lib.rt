@@ -1,4 +1,6 @@
 // From the script of a reading to its number. The table has to be filled.
+#![tactic(auto)]
+
 mod before; // what stands before a derivation
 
 ghost use Rattle.std.specs.Prelude.{◌≤◌, ◌<◌, length};

@@ -1,5 +1,7 @@
 // The readings of a record: how many there are, reading number k, those from number k on, whether a script is that of a reading, and the
 // number of one that is.
+#![tactic(auto)]
+
 mod refuse; // the refusals
 
 ghost use Rattle.std.specs.Prelude.{◌≡◌, ◌-◌, ◌*◌, ◌≤◌, min, length};
@@ -12,7 +14,7 @@ ghost use Rattle.readings.specs.Number.{NumberIs};
 ghost use Rattle.readings.specs.Exact.{Lendable};
 
 // What counting answers: a refusal with 0, or 0 with the number of readings, held at the limit. The rule is that of 6 and 7, else 0.
-#[derive(Drop)]
+#[derive(Clone, Copy)]
 pub struct Counted {
     pub refusal: u8,
     pub rule: u16,
@@ -20,14 +22,14 @@ pub struct Counted {
 }
 
 // What a reading answers: a refusal, or 0.
-#[derive(Drop)]
+#[derive(Clone, Copy)]
 pub struct Read {
     pub refusal: u8,
     pub rule: u16,
 }
 
 // What a page answers: a refusal with 0, or 0 with the number of scripts written.
-#[derive(Drop)]
+#[derive(Clone, Copy)]
 pub struct Paged {
     pub refusal: u8,
     pub rule: u16,
@@ -35,7 +37,7 @@ pub struct Paged {
 }
 
 // What checking answers: a refusal with no, or 0 with yes or no.
-#[derive(Drop)]
+#[derive(Clone, Copy)]
 pub struct Checked {
     pub refusal: u8,
     pub rule: u16,
@@ -43,7 +45,7 @@ pub struct Checked {
 }
 
 // What the number of a script answers: a refusal with 0, or 0 with the number of the reading.
-#[derive(Drop)]
+#[derive(Clone, Copy)]
 pub struct Found {
     pub refusal: u8,
     pub rule: u16,

@@ -1,4 +1,6 @@
 // Tests on the rules of an image: that no symbol is N or more, and that each rule is above its predecessor of the same kind.
+#![tactic(auto)]
+
 ghost use Rattle.bits.specs.Truth.{Decides};
 ghost use Rattle.derivation.specs.Grammar.{rule_total};
 ghost use Rattle.derivation.specs.Sound.{SymbolsFit, Rises};
@@ -72,7 +74,7 @@ fn rises(image: &[u8], r: usize) -> bool
 // ---- all rules
 
 // What a rule is tested for: that its symbols fit, or that it is above its predecessor.
-#[derive(Drop)]
+#[derive(Clone, Copy)]
 pub enum Demand {
     Fits,
     Above,

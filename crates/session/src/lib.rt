@@ -1,5 +1,7 @@
 // A session: the chart of the events so far, handed in and back by value. It begins empty; each event adds a column, and the last can be taken
 // back.
+#![tactic(auto)]
+
 ghost use Rattle.std.specs.Prelude.{◌≡◌, false};
 ghost use Rattle.session.specs.Session.{no_events, AddIs, TakeBackIs};
 
@@ -8,7 +10,7 @@ pub const MOST: u64 = 32;
 
 pub const WORDS: usize = 528;
 
-#[derive(Drop)]
+#[derive(Clone, Copy)]
 pub struct Session {
     pub chart: [u64; WORDS],
     pub count: u64,
@@ -16,7 +18,7 @@ pub struct Session {
 
 // What adding answers: a refusal with zeros and the session as it was, or 0 with the session after the event, the verdict so far and the firings
 // of the event's column. The rule is that of 6 and 7, else 0.
-#[derive(Drop)]
+#[derive(Clone, Copy)]
 pub struct Added {
     pub session: Session,
     pub firings: u64,
@@ -26,7 +28,7 @@ pub struct Added {
 }
 
 // What taking back answers: a refusal with the session as it was, or 0 with the session before its last event.
-#[derive(Drop)]
+#[derive(Clone, Copy)]
 pub struct TakenBack {
     pub session: Session,
     pub refusal: u8,

@@ -1,4 +1,6 @@
 // The program around its text: what it asks of the system, and nothing else. All that is written is `listing`'s.
+#![tactic(auto)]
+
 ghost use Rattle.std.specs.Prelude.{◌≡◌, ◌+◌, ◌-◌, ◌≤◌, ◌<◌, length, take};
 ghost use Rattle.std.specs.Int.Signed.{non_neg};
 ghost use Rattle.io.specs.Counts.{IsPrefixLen, clamp_len};
@@ -8,7 +10,7 @@ ghost use Rattle.listing.specs.Listing.{most_event_bytes, most_bytes, Written};
 use libc::{STDERR_FILENO, STDOUT_FILENO};
 
 // What was read of a file: whether it could be opened and every read went well, and how many bytes stand at the buffer's start.
-#[derive(Drop)]
+#[derive(Clone, Copy)]
 pub struct Loaded {
     pub ok: bool,
     pub len: usize,

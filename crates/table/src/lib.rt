@@ -1,4 +1,6 @@
 // The count table: how many derivations each symbol has over each stretch, each cell from the cells of the shorter stretches inside it.
+#![tactic(auto)]
+
 pub mod numbers; // numbers held at the limit
 mod splits; // the words of a table, and what they say of a stretch in two parts
 mod fill; // cells and columns

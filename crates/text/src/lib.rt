@@ -1,4 +1,6 @@
 // Numbers and lines as text, into memory that the caller lends; and bytes read as 16-bit words.
+#![tactic(auto)]
+
 ghost use Rattle.std.specs.Prelude.{◌≡◌, ◌++◌, ◌∷◌, [], ◌+◌, ◌*◌, ◌/◌, ◌≤◌, ◌<◌, length, drop};
 ghost use Rattle.text.specs.Text.{text, line, words};
 ghost use Rattle.text.specs.Put.{Put};

@@ -12,7 +12,7 @@ ghost use Rattle.unrank.specs.Choice.{Picked, Chosen, ChosenLeaf, Planned};
 use super::begin::first_rule;
 
 // The split in whose share a place falls, and the place in it; or how far past them all it is.
-#[derive(Drop)]
+#[derive(Clone, Copy)]
 pub struct Pick {
     pub found: bool,
     pub split: usize,
@@ -51,7 +51,7 @@ fn pick_split(
 }
 
 // The pair rule in whose share a place falls, and there the split, and the place in its share.
-#[derive(Drop)]
+#[derive(Clone, Copy)]
 pub struct Choice {
     pub pair: usize,
     pub split: usize,
@@ -111,7 +111,7 @@ pub fn choose_leaf(image: &[u8], event: usize, symbol: usize, rank: u32) -> usiz
 }
 
 // The root of a derivation over two events or more, and the symbol and number of each of its parts.
-#[derive(Drop)]
+#[derive(Clone, Copy)]
 pub struct Plan {
     pub rule: usize,
     pub split: usize,

@@ -1,4 +1,6 @@
 // From a number to the script of the reading that has it. The table has to be filled.
+#![tactic(auto)]
+
 mod begin; // where the rules of a symbol begin
 pub mod choose; // which rule and split a number is by
 

@@ -1,12 +1,7 @@
 -- The machine's count of ones is the sum of the bits, and a word of 64 bits has at most 64 of them.
--- Assumes nothing.
 use Rattle.bits.proofs.Words.{ones_bits}
 use lib.Count.{ones-le}
-use Rattle.bits.proofs.ones.Statement.{statement}
-use Rattle.bits.proofs.ones.Tie as tie
+use Rattle.bits.proofs.ones.Goals as goal
 
-returns : tie.Need-returns
+pub returns : goal.returns
 returns c = (ones_bits 64 c.args.word c.ranges.word.fits, ones-le 64 c.args.word c.ranges.word.fits)
-
-pub ones-spec : {M : Type 1} → statement M
-ones-spec = tie.close (tie.spec returns)
