@@ -40,13 +40,13 @@ count e w h = ap length h ∙ length_words 2 e
 
 -- ---- judging
 module _ (b e chart w : List ℕ) (is : w ≡ words 2 e) (n : ℕ) (z : n ≡ 0) (f : First (judge_byte_rows b e chart) n) where
-  pub lends-chart : LendsChart b w chart
-  lends-chart =
+  pub lends_chart : LendsChart b w chart
+  lends_chart =
       let p = chart_passes b (length e) (length chart) n z f in
       record { image = p.events.image; few = rw (count e w is) (omega (arith, p.events.few)); fits = rw (count e w is) (omega (arith, p.fits)) }
 
-  pub judge-answers : (r : Judged) (after : List ℕ) → JudgedIn (decode b) w chart r after → JudgeBytesIs b e chart r after
-  judge-answers r after j = record {
+  pub judge_answers : (r : Judged) (after : List ℕ) → JudgedIn (decode b) w chart r after → JudgeBytesIs b e chart r after
+  judge_answers r after j = record {
     refusal = subst (First (judge_byte_rows b e chart)) (z ∙ sym j.refusal) f;
     rule = names_before (omega (arith, j.refusal)) j.rule;
     refused = λ y. absurd (y j.refusal);
@@ -75,16 +75,16 @@ module _ (b e w : List ℕ) (is : w ≡ words 2 e) (table : List ℕ) (m : ℕ) 
 
 -- ---- counting
 module _ (b e table w : List ℕ) (is : w ≡ words 2 e) (n : ℕ) (z : n ≡ 0) (f : First (count_byte_rows b (length e) (length table)) n) where
-  pub lends-table : (room : List ℕ) → LendsTable b w 0 table room
-  lends-table room = let p = table_passes b (length e) (length table) n z f in lends b e w is table 0 room p.events p.fits (omega arith)
+  pub lends_table : (room : List ℕ) → LendsTable b w 0 table room
+  lends_table room = let p = table_passes b (length e) (length table) n z f in lends b e w is table 0 room p.events p.fits (omega arith)
 
-  pub count-answers : (room : List ℕ) (r : Taken) (table' room' : List ℕ) → TakenIs b w 0 0 table room r table' room'
+  pub count_answers : (room : List ℕ) (r : Taken) (table' room' : List ℕ) → TakenIs b w 0 0 table room r table' room'
       → CountBytesIs b e table (record { refusal = 0; rule = 0; total = r.total }) table'
-  count-answers room r table' room' t = record {
+  count_answers room r table' room' t = record {
     refusal = subst (First (count_byte_rows b (length e) (length table))) z f;
     rule = names_before (omega arith) refl;
     refused = λ y. absurd (y refl);
-    answered = λ _. record { total = rw is at t.total; table = rw is at (t.page.filled (fills b e w is table 0 room (lends-table room) 0 r table' room' t)) };
+    answered = λ _. record { total = rw is at t.total; table = rw is at (t.page.filled (fills b e w is table 0 room (lends_table room) 0 r table' room' t)) };
     framed = λ _. rw (count e w is) at t.framed;
   }
 
@@ -110,12 +110,12 @@ early_refused b e table room k n rule y f names = record {
     kept = early_keeps (lent_byte_rows b (length e) (length table) (length room)) (early b (length e) (length table) (length room)) n y f
 
 module _ (b e table room w : List ℕ) (is : w ≡ words 2 e) (k n : ℕ) (z : n ≡ 0) (f : First (lent_byte_rows b (length e) (length table) (length room)) n) (script : List ℕ) where
-  pub lends-script : script_word_count (length e / 2) ≤ length script → LendsTable b w 1 table script
-  lends-script h = let p = lent_passes b (length e) (length table) (length room) n z f in lends b e w is table 1 script p.count.events p.count.fits (omega (arith, h))
+  pub lends_script : script_word_count (length e / 2) ≤ length script → LendsTable b w 1 table script
+  lends_script h = let p = lent_passes b (length e) (length table) (length room) n z f in lends b e w is table 1 script p.count.events p.count.fits (omega (arith, h))
 
   module _ (h : script_word_count (length e / 2) ≤ length script) (r : Taken) (table' script' : List ℕ) (t : TakenIs b w k 1 table script r table' script') where
     decides : First (number_rows k (how_many (decode b) w)) r.paged.refusal
-    decides = number b e w is table 1 script (lends-script h) k r table' script' t
+    decides = number b e w is table 1 script (lends_script h) k r table' script' t
 
     filled : Fills r.paged.refusal
     filled = late_fills r.paged.refusal decides
@@ -123,8 +123,8 @@ module _ (b e table room w : List ℕ) (is : w ≡ words 2 e) (k n : ℕ) (z : n
     first : First (reading_byte_rows b e k table room) r.paged.refusal
     first = past_zero (lent_byte_rows b (length e) (length table) (length room)) (number_rows k (how_many (decode b) (words 2 e))) (omega arith) n z f (rw is at decides)
 
-    pub reading-refused : r.paged.refusal ≢ 0 → ReadingBytesIs b e k table room (record { refusal = r.paged.refusal; rule = 0 }) table' room
-    reading-refused y = record {
+    pub reading_refused : r.paged.refusal ≢ 0 → ReadingBytesIs b e k table room (record { refusal = r.paged.refusal; rule = 0 }) table' room
+    reading_refused y = record {
       refusal = first;
       rule = fills_name r.paged.refusal filled;
       filled = λ _. rw is at (t.page.filled filled);
@@ -145,8 +145,8 @@ module _ (b e table room w : List ℕ) (is : w ≡ words 2 e) (k n : ℕ) (z : n
       front : take (script_word_count (length e / 2)) script' ≡ spelling (get_or (readings (decode b) w) k quiet)
       front = ap (take (script_word_count (length e / 2))) (one.written q) ∙ take_at _ _ (script_word_count (length e / 2)) (long ∙ ap script_word_count (count e w is))
 
-      pub reading-answers : ReadingBytesIs b e k table room (record { refusal = 0; rule = 0 }) table' room'
-      reading-answers = record {
+      pub reading_answers : ReadingBytesIs b e k table room (record { refusal = 0; rule = 0 }) table' room'
+      reading_answers = record {
         refusal = subst (First (reading_byte_rows b e k table room)) q first;
         rule = names_before (omega arith) refl;
         filled = λ _. rw is at (t.page.filled filled);

@@ -12,7 +12,7 @@ use Rattle.bits.proofs.Each.{all_front, all_back}
 use Rattle.derivation.specs.Grammar.{Grammar, flagged}
 use Rattle.derivation.specs.Tree.{Derivable}
 use Rattle.derivation.specs.Numbering.{Tells, Telling}
-use Rattle.derivation.specs.Chart.{Findings, items, firings, column_firings, cell_firings, pair_firings, event_firings}
+use Rattle.derivation.specs.Chart.{Findings, firings, column_firings, cell_firings, pair_firings, event_firings}
 use Rattle.derivation.proofs.Counts.{of_known}
 use Rattle.derivation.proofs.Numbering.{tells_only}
 use Rattle.derivation.proofs.Flag.{tells_flagged, admitted_flagged, flagged_admitted}

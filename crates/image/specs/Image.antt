@@ -1,6 +1,6 @@
 -- Promised: what is asked of a grammar image and of a record, as the rows of 01's refusal table, and what the two tests answer.
 -- Assumes nothing.
-use Rattle.std.specs.Prelude.{ℕ, ◌+◌, ◌*◌, ◌%◌, ◌≤◌, ◌≡◌, ◌⊎◌, ◌≢◌, List, [], ◌∷◌, ◌++◌, length}
+use Rattle.std.specs.Prelude.{ℕ, ◌*◌, ◌%◌, ◌≤◌, ◌≡◌, ◌⊎◌, ◌≢◌, List, [], ◌∷◌, ◌++◌, length}
 use Rattle.bits.specs.Truth.{Every}
 use Rattle.derivation.specs.Grammar.{Grammar, event_rule_count, pair_rule_count, rule_total}
 use Rattle.derivation.specs.Sound.{InRange, SymbolsFit, Rises}

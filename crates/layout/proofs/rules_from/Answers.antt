@@ -1,0 +1,11 @@
+-- The rules begin behind the header, and in version 2 behind the flag.
+use native.Mathlib.Omega.{arith}
+use mathlib.Core.Path.{sym, ◌∙◌}
+use Rattle.layout.proofs.Decoded.{rules_behind, rules_at_once}
+use Rattle.layout.proofs.rules_from.Goals as goal
+
+pub returns-then-version-eq2 : goal.returns-then-version-eq2
+returns-then-version-eq2 c = (sym (rules_behind _ (sym c.version.ensures ∙ c.if-version-eq2.true)), omega arith)
+
+pub returns : goal.returns
+returns c = (sym (rules_at_once _ (λ e. c.if-version-eq2.false (c.version.ensures ∙ e))), omega arith)
