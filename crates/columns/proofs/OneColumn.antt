@@ -18,7 +18,6 @@ use Rattle.derivation.specs.Grammar.{Grammar, event_rule_count, pair_rule_count,
 use Rattle.derivation.specs.Sound.{Sound}
 use Rattle.derivation.specs.Chart.{cells_before, cell_at, event_firings, pair_firings, cell_firings, column_firings}
 use Rattle.derivation.proofs.Sound.{leaf_fits_is, pair_fits_at}
-use Rattle.kernel.specs.Fire.{hits}
 use Rattle.kernel.specs.Conclude.{hit, conclusions, leaf_conclusions}
 use Rattle.columns.specs.NewColumn.{rd, in_chart, cell_conclusions, Column, ColumnFilled}
 use Rattle.columns.proofs.Fills.{conclusions_stay, firings_stay}
