@@ -1,7 +1,7 @@
 -- The refusal tables of count, reading, page and number: what the answer 0 gives, and which numbers and scripts the refusals 12 and 13 leave.
 -- Assumes nothing.
 use mathlib.Core.Path.{◌≡◌, refl, subst, subst⁻¹}
-use mathlib.Core.Logic.{◌⊎◌, inl, inr, ◌≢◌, ⊎_elim}
+use mathlib.Core.Logic.{inl, inr, ◌≢◌, ⊎_elim}
 use mathlib.Core.List.{List, [], ◌∷◌, ◌++◌}
 use Prim.Native.Nat.{ℕ, ◌≤◌, ◌<◌}
 use native.Mathlib.Decide.{dec_lt}
