@@ -5,7 +5,8 @@ SHELL := bash
 # Proves and builds the program and the page, and lists the readings of three example records, and what the program says of a misspelt
 # grammar (examples/README.md). Each crate is told when it is proved, to a file or a pipe as well.
 run:
-	@rt check lister boundary | grep --line-buffered '^rt:'
+	@rt all check | awk '/^== / { crate = $$2 } /^logic=proved/ { print crate " proved"; fflush() } /error|not proved|no proof/'
+	@cd crates/lister && rt run 2>&1 | sed -n '/error/p'
 	@tools/page target/page
 	tools/run lister examples/stop.grammar examples/two-stops.events
 	tools/run lister examples/chain.grammar examples/four.events
@@ -23,7 +24,7 @@ page:
 	@echo target/page/chrysovend.html
 
 clean:
-	rm -rf target
+	rm -rf target crates/*/out
 
 # Measures the services beside the same loops in plain Rust, on this machine's processor.
 bench:
