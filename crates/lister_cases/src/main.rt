@@ -9,8 +9,8 @@
 
 const RUNS: usize = 54;
 
-fn main() {
+fn main(rt: HostRuntime) {
     for x in 0..RUNS {
-        shell::run_at(2 * x + 1);
+        shell::run_at(&rt, 2 * x + 1);
     }
 }
