@@ -23,8 +23,9 @@ def chromium(folder, width=1300, height=1000):
 
 
 class Browser:
-    def __init__(self, page):
+    def __init__(self, page, wasm):
         self.page = pathlib.Path(page).resolve().as_uri()
+        self.wasm = pathlib.Path(wasm).read_bytes()
         self.folder = pathlib.Path(tempfile.mkdtemp())
         self.driver = chromium(self.folder)
         self.results, self.requests = [], []
@@ -53,6 +54,19 @@ class Browser:
         act()
         self.js("document.body.offsetHeight")
         return 1000 * (so_far() - before)
+
+    def counted(self, image, record, symbols):
+        """How many milliseconds of its processor the page's thread takes to fill the count table of a record, by an instance of the services of its own."""
+        self.js("""const [wasm, image, record] = [...arguments].slice(0, 3).map(text => Uint8Array.from(atob(text), one => one.charCodeAt(0)));
+            const services = new WebAssembly.Instance(new WebAssembly.Module(wasm), {}).exports, { memory } = services;
+            const from = services.__heap_base.value, at = [0, 4096, 8192, 8200].map(one => from + one), words = BigInt(arguments[3]);
+            memory.grow(Math.ceil((8208 + 4 * arguments[3]) / 65536) + 1);
+            new Uint8Array(memory.buffer).set(image, at[0]);
+            new Uint8Array(memory.buffer).set(record, at[1]);
+            window.countAgain = () => services.reader_count(at[0], BigInt(image.length), at[1], BigInt(record.length / 2), from + 8208, words, at[2], at[3]) & 0xff;""",
+            *(base64.b64encode(one).decode() for one in (self.wasm, image, record)), symbols * (len(record) // 2) * (len(record) // 2 + 1) // 2)
+        self.check("the services count by themselves", self.js("return window.countAgain()"), 0)
+        return lambda: self.spent(lambda: self.js("window.countAgain()"))
 
     def until(self, found, expected):
         """What is found in the end: a check of what comes only with the next frame."""

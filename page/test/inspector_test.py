@@ -1,5 +1,6 @@
 #!/usr/bin/python3
-"""inspector_test.py PAGE [PICTURES]: a built page in Chromium, used as an inspector does. Ends with 'N passed, M failed'.
+"""inspector_test.py PAGE WASM [PICTURES]: a built page in Chromium, used as an inspector does, and the module of its services, to see how fast they are
+there. Ends with 'N passed, M failed'.
 
 With PICTURES, a folder, the page is also kept there as PNG, at two widths and in both colours, and README's picture of it."""
 import pathlib
@@ -39,16 +40,16 @@ def pictures(b, folder):
 
 
 def main():
-    if len(sys.argv) not in (2, 3):
+    if len(sys.argv) not in (3, 4):
         sys.exit(__doc__)
-    b = Browser(sys.argv[1])
+    b = Browser(sys.argv[1], sys.argv[2])
     try:
         for part in PARTS:
             part(b)
             b.check(f"{part.__name__}: no complaint in the console", b.complaints(), [])
         b.check("no request to anywhere", b.asked(), [])
-        if len(sys.argv) == 3:
-            pictures(b, pathlib.Path(sys.argv[2]))
+        if len(sys.argv) == 4:
+            pictures(b, pathlib.Path(sys.argv[3]))
     except Exception as error:  # what could not be done counts as a failure, and the rest is told
         b.check("the test as a whole", f"{type(error).__name__}: {error}"[:800], "no error")
         traceback.print_exc()
