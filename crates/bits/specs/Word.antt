@@ -1,6 +1,6 @@
 -- Inside: words as sets: what is in one, a word with a bit put in, whether two have a bit in common, a word without a bit.
 -- Assumes nothing.
-use Rattle.std.specs.Prelude.{◌≡◌, ℕ, ◌+◌, ◌*◌, ◌^◌, ◌<◌, min}
+use Rattle.std.specs.Prelude.{◌≡◌, ℕ, ◌+◌, ◌*◌, ◌^◌, ◌<◌, min, Option, MatchOption}
 use Rattle.std.specs.Int.Bits.{bit_and, bit_or}
 use Rattle.bits.specs.Truth.{same}
 use Rattle.bits.specs.Bit.{bit}
@@ -25,3 +25,7 @@ meet v w = min 1 (bit_and v w)
 pub record Without (w a r : ℕ) : Type 0 where
   pub less : r < w
   pub bits : (b : ℕ) → bit r b + same a b ≡ bit w b
+
+-- one call on the numbers that are left: it gives one of them, and leaves the others, or gives `None` where none is left
+abbrev pub GivesMember : ℕ → Option ℕ → ℕ → Type 0
+GivesMember w r t = MatchOption r ((w ≡ 0) × (t ≡ 0)) (λ a. (a < 64) × Has w a × Without w a t)

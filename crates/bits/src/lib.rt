@@ -1,12 +1,16 @@
-// A word as a set of numbers below 64: a bit is tested, put in or taken out, all are counted, the first one is found.
+// A word as a set of numbers below 64: a bit is tested or put in, all are counted, the first one is found, each is visited.
 #![tactic(auto)]
 
 ghost use Rattle.std.specs.Prelude.{◌≡◌, ◌≤◌, ◌<◌};
+ghost use Rattle.std.specs.Iterator.{at_most};
 ghost use Rattle.bits.specs.Sum.{sum};
 ghost use Rattle.bits.specs.Bit.{bit};
-ghost use Rattle.bits.specs.Word.{put, Without};
+ghost use Rattle.bits.specs.Word.{put, GivesMember};
+
+use std::marker::Model;
 
 // Bit a of a word: 0 or 1.
+#[tactic(auto, unfolding(crate::specs::Bit::bit))]
 pub fn bit_of(word: u64, a: usize) -> u64
     requires { a < 64 }
     ensures { result ≡ bit word a }
@@ -30,6 +34,7 @@ pub fn ones(word: u64) -> u32
 }
 
 // A set bit of a word that has one; which of them makes no difference to a caller.
+#[tactic(auto, using(crate::proofs::First::first_is))]
 pub fn first_bit(word: u64) -> usize
     requires { 0 < word }
     ensures { (result < 64) × (bit word result ≡ 1) }
@@ -37,10 +42,43 @@ pub fn first_bit(word: u64) -> usize
     u64::trailing_zeros(word) as usize
 }
 
-// A word without a bit that it has.
-pub fn without(word: u64, a: usize) -> u64
-    requires { (a < 64) × (bit word a ≡ 1) }
-    ensures { Without word a result }
+// The numbers in a word, one by one: it is seen as the word of those that are left.
+#[derive(Drop)]
+pub struct Iter {
+    rest: u64,
+}
+
+impl Model for Iter {
+    ghost use Rattle.std.specs.Prelude.{ℕ};
+
+    ghost Value = { ℕ };
+
+    ghost view = { λ m. m.rest };
+}
+
+impl Iterator for Iter {
+    type Item = usize;
+
+    ghost next_gives = { GivesMember };
+
+    ghost remaining = { λ rest. at_most rest };
+
+    #[inline]
+    #[tactic(auto, using(crate::proofs::First::first_given))]
+    fn next(&mut self) -> Option<usize> {
+        if self.rest == 0 {
+            return None;
+        }
+        let a = u64::trailing_zeros(self.rest) as usize;
+        self.rest &= self.rest - 1;
+        Some(a)
+    }
+}
+
+// The numbers in a word, to be visited.
+#[inline]
+pub fn members(word: u64) -> Iter
+    ensures { result ≡ word }
 {
-    word - (1 << a)
+    Iter { rest: word }
 }

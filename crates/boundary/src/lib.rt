@@ -4,6 +4,7 @@
 
 ghost use Rattle.std.specs.Prelude.{◌≡◌};
 ghost use Rattle.layout.specs.Layout.{decode};
+ghost use Rattle.image.specs.Answer.{number_in, rule_in};
 ghost use Rattle.image.specs.Image.{image_rows, TestedIs};
 ghost use Rattle.chart.specs.Judge.{JudgeIs};
 ghost use Rattle.session.specs.Session.{no_events, AddIs, TakeBackIs};
@@ -13,7 +14,24 @@ ghost use Rattle.readings.specs.Page.{PageIs};
 ghost use Rattle.readings.specs.Check.{CheckIs};
 ghost use Rattle.readings.specs.Number.{NumberIs};
 
+use image::Refusal;
 use session::Session;
+
+// Tells C whether a service refused: the number of the refusal or 0, and through `rule` the rule that it names.
+fn tell<T>(answer: &Result<T, Refusal>, rule: &mut u16) -> u8
+    ensures { (result ≡ number_in answer.now) × (rule.new ≡ rule_in answer.now) }
+{
+    match answer {
+        Ok(_) => {
+            *rule = 0;
+            0
+        }
+        Err(refusal) => {
+            *rule = refusal.rule();
+            refusal.number()
+        }
+    }
+}
 
 // Tests a grammar image.
 #[unsafe(no_mangle)]
@@ -28,11 +46,16 @@ pub extern "C" fn reader_test(
         (record { refusal = result; rule = rule.new; symbols = symbols.new; leaves = leaves.new; pairs = pairs.new }) }
 {
     let tested = image::test_image(image);
-    *rule = tested.rule;
-    *symbols = tested.symbols;
-    *leaves = tested.leaves;
-    *pairs = tested.pairs;
-    tested.refusal
+    if let Ok(grammar) = tested {
+        *symbols = grammar.symbol_count();
+        *leaves = grammar.leaf_count();
+        *pairs = grammar.pair_count();
+    } else {
+        *symbols = 0;
+        *leaves = 0;
+        *pairs = 0;
+    }
+    tell(&tested, rule)
 }
 
 // Judges a record.
@@ -51,11 +74,16 @@ pub extern "C" fn reader_judge(
         chart.new }
 {
     let judged = chart::judge(image, events, chart);
-    *rule = judged.rule;
-    *admitted = judged.admitted;
-    *items = judged.items;
-    *firings = judged.firings;
-    judged.refusal
+    if let Ok(judgement) = judged {
+        *admitted = judgement.admitted;
+        *items = judgement.items;
+        *firings = judgement.firings;
+    } else {
+        *admitted = false;
+        *items = 0;
+        *firings = 0;
+    }
+    tell(&judged, rule)
 }
 
 // Counts the readings of a record.
@@ -71,9 +99,8 @@ pub extern "C" fn reader_count(
         (record { refusal = result; rule = rule.new; total = total.new }) table.new }
 {
     let counted = readings::count(image, events, table);
-    *rule = counted.rule;
-    *total = counted.total;
-    counted.refusal
+    *total = counted.unwrap_or(0);
+    tell(&counted, rule)
 }
 
 // Gives reading number k as a script.
@@ -90,8 +117,7 @@ pub extern "C" fn reader_reading(
         (record { refusal = result; rule = rule.new }) table.new room.new }
 {
     let read = readings::reading(image, events, k, table, room);
-    *rule = read.rule;
-    read.refusal
+    tell(&read, rule)
 }
 
 // Gives the readings from number k on as scripts, m of them or as many as there are.
@@ -110,9 +136,8 @@ pub extern "C" fn reader_page(
         (record { refusal = result; rule = rule.new; written = written.new }) table.new room.new }
 {
     let paged = readings::page(image, events, k, m, table, room);
-    *rule = paged.rule;
-    *written = paged.written;
-    paged.refusal
+    *written = paged.unwrap_or(0);
+    tell(&paged, rule)
 }
 
 // Checks a script.
@@ -128,9 +153,8 @@ pub extern "C" fn reader_check(
         (record { refusal = result; rule = rule.new; yes = yes.new }) }
 {
     let checked = readings::check(image, events, script);
-    *rule = checked.rule;
-    *yes = checked.yes;
-    checked.refusal
+    *yes = checked.unwrap_or(false);
+    tell(&checked, rule)
 }
 
 // Finds the number of a script.
@@ -147,9 +171,8 @@ pub extern "C" fn reader_number(
         (record { refusal = result; rule = rule.new; reading = reading.new }) table.new }
 {
     let found = readings::number(image, events, script, table);
-    *rule = found.rule;
-    *reading = found.reading;
-    found.refusal
+    *reading = found.unwrap_or(0);
+    tell(&found, rule)
 }
 
 // The session without events.
@@ -182,14 +205,17 @@ pub extern "C" fn reader_add(
         count: *count,
     };
     let added = session::add(image, before, event);
-    let after = added.session;
-    let words = after.chart;
-    *chart = words;
-    *count = after.count;
-    *rule = added.rule;
-    *admitted = added.admitted;
-    *firings = added.firings;
-    added.refusal
+    if let Ok(after) = added {
+        let words = after.session.chart;
+        *chart = words;
+        *count = after.session.count;
+        *admitted = after.admitted;
+        *firings = after.firings;
+    } else {
+        *admitted = false;
+        *firings = 0;
+    }
+    tell(&added, rule)
 }
 
 // Takes the last event of a session back.
@@ -202,10 +228,13 @@ pub extern "C" fn reader_take_back(chart: &mut [u64; session::WORDS], count: &mu
         chart: *chart,
         count: *count,
     };
-    let taken = session::take_back(before);
-    let left = taken.session;
-    let words = left.chart;
-    *chart = words;
-    *count = left.count;
-    taken.refusal
+    match session::take_back(before) {
+        Ok(left) => {
+            let words = left.chart;
+            *chart = words;
+            *count = left.count;
+            0
+        }
+        Err(refusal) => refusal.number(),
+    }
 }

@@ -20,11 +20,11 @@ use Rattle.image.specs.Refusal.{Row, FirstOf, First}
 use Rattle.image.specs.Image.{image_rows, event_rows, event_byte_rows, record_rows, record_byte_rows}
 use Rattle.image.proofs.Refusals.{first_only, behind}
 use Rattle.image.proofs.Named.{names_same}
-use Rattle.chart.specs.declared.Judged.{Judged}
+use Rattle.chart.specs.Answer.{Judged}
 use Rattle.chart.specs.Judge.{chart_rows, JudgeIs}
 use Rattle.chart.proofs.Judges.{judge_only}
-use Rattle.readings.specs.declared.Counted.{Counted}
-use Rattle.readings.specs.declared.Read.{Read}
+use Rattle.readings.specs.Answer.{Counted}
+use Rattle.readings.specs.Answer.{Read}
 use Rattle.readings.specs.Count.{how_many, table_rows, CountIs}
 use Rattle.readings.specs.Reading.{number_rows, Fills, ReadingIs}
 use Rattle.readings.proofs.Refuses.{early_past}

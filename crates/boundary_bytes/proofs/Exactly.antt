@@ -14,11 +14,11 @@ use Rattle.image.specs.Exactly.{Exactly}
 use Rattle.image.specs.Image.{image_rows, event_byte_rows, record_byte_rows}
 use Rattle.image.proofs.Refusals.{none, pass, first_only, past_zero, reached, passed}
 use Rattle.image.proofs.Images.{accepted_back}
-use Rattle.chart.specs.declared.Judged.{Judged}
+use Rattle.chart.specs.Answer.{Judged}
 use Rattle.chart.specs.Judge.{chart_rows}
 use Rattle.table.specs.Table.{limit}
-use Rattle.readings.specs.declared.Counted.{Counted}
-use Rattle.readings.specs.declared.Read.{Read}
+use Rattle.readings.specs.Answer.{Counted}
+use Rattle.readings.specs.Answer.{Read}
 use Rattle.readings.specs.Count.{how_many, table_rows}
 use Rattle.readings.specs.Reading.{room_rows, number_rows}
 use Rattle.readings.specs.Exact.{Numbered}

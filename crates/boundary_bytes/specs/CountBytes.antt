@@ -8,7 +8,7 @@ use Rattle.layout.specs.Layout.{decode}
 use Rattle.image.specs.Refusal.{Row, First}
 use Rattle.image.specs.Image.{record_byte_rows, Names}
 use Rattle.table.specs.Table.{table_words}
-use Rattle.readings.specs.declared.Counted.{Counted}
+use Rattle.readings.specs.Answer.{Counted}
 use Rattle.readings.specs.Count.{table_rows, Refused, Answered}
 
 -- the refusals of the record's bytes, and then 10: so many bytes of events and of a table

@@ -8,7 +8,7 @@ use Rattle.derivation.specs.Chart.{cells}
 use Rattle.layout.specs.Layout.{decode}
 use Rattle.image.specs.Refusal.{Row, First}
 use Rattle.image.specs.Image.{record_byte_rows, Names}
-use Rattle.chart.specs.declared.Judged.{Judged}
+use Rattle.chart.specs.Answer.{Judged}
 use Rattle.chart.specs.Judge.{chart_rows, Refused, Answered}
 
 -- the refusals of the record's bytes, and then 9

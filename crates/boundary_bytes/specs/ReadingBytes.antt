@@ -11,7 +11,7 @@ use Rattle.layout.specs.Layout.{decode}
 use Rattle.image.specs.Refusal.{Row, First}
 use Rattle.image.specs.Image.{Names}
 use Rattle.table.specs.Table.{table_words, Filled}
-use Rattle.readings.specs.declared.Read.{Read}
+use Rattle.readings.specs.Answer.{Read}
 use Rattle.readings.specs.Count.{how_many}
 use Rattle.readings.specs.Reading.{room_rows, number_rows, Fills}
 use Rattle.boundary_bytes.specs.CountBytes.{count_byte_rows}

@@ -4,10 +4,10 @@
 use Rattle.std.specs.Prelude.{◌≡◌, List, ℕ, ◌%◌, length}
 use Rattle.packed.specs.Packed.{words}
 use Rattle.packed.specs.Bytes.{Bytes, Unpacked}
-use Rattle.chart.specs.declared.Judged.{Judged}
+use Rattle.chart.specs.Answer.{Judged}
 use Rattle.chart.specs.Judge.{JudgeIs}
-use Rattle.readings.specs.declared.Counted.{Counted}
-use Rattle.readings.specs.declared.Read.{Read}
+use Rattle.readings.specs.Answer.{Counted}
+use Rattle.readings.specs.Answer.{Read}
 use Rattle.readings.specs.Count.{CountIs}
 use Rattle.readings.specs.Reading.{ReadingIs}
 use Rattle.boundary_bytes.specs.JudgeBytes.{JudgeBytesIs}

@@ -5,9 +5,29 @@
 mod refuse; // the refusals
 mod services; // what the C functions answer
 
+ghost use Rattle.std.specs.Prelude.{◌≡◌};
+ghost use Rattle.image.specs.Answer.{number_in, rule_in};
 ghost use Rattle.boundary_bytes.specs.JudgeBytes.{JudgeBytesIs};
 ghost use Rattle.boundary_bytes.specs.CountBytes.{CountBytesIs};
 ghost use Rattle.boundary_bytes.specs.ReadingBytes.{ReadingBytesIs};
+
+use image::Refusal;
+
+// Tells C whether a service refused: the number of the refusal or 0, and through `rule` the rule that it names.
+fn tell<T>(answer: &Result<T, Refusal>, rule: &mut u16) -> u8
+    ensures { (result ≡ number_in answer.now) × (rule.new ≡ rule_in answer.now) }
+{
+    match answer {
+        Ok(_) => {
+            *rule = 0;
+            0
+        }
+        Err(refusal) => {
+            *rule = refusal.rule();
+            refusal.number()
+        }
+    }
+}
 
 // Judges a record.
 #[unsafe(no_mangle)]
@@ -25,11 +45,16 @@ pub extern "C" fn reader_judge_bytes(
         chart.new }
 {
     let judged = services::judge(image, events, chart);
-    *rule = judged.rule;
-    *admitted = judged.admitted;
-    *items = judged.items;
-    *firings = judged.firings;
-    judged.refusal
+    if let Ok(judgement) = judged {
+        *admitted = judgement.admitted;
+        *items = judgement.items;
+        *firings = judgement.firings;
+    } else {
+        *admitted = false;
+        *items = 0;
+        *firings = 0;
+    }
+    tell(&judged, rule)
 }
 
 // Counts the readings of a record.
@@ -45,9 +70,8 @@ pub extern "C" fn reader_count_bytes(
         (record { refusal = result; rule = rule.new; total = total.new }) table.new }
 {
     let counted = services::count(image, events, table);
-    *rule = counted.rule;
-    *total = counted.total;
-    counted.refusal
+    *total = counted.unwrap_or(0);
+    tell(&counted, rule)
 }
 
 // Gives reading number k as a script.
@@ -64,6 +88,5 @@ pub extern "C" fn reader_reading_bytes(
         (record { refusal = result; rule = rule.new }) table.new room.new }
 {
     let read = services::reading(image, events, k, table, room);
-    *rule = read.rule;
-    read.refusal
+    tell(&read, rule)
 }

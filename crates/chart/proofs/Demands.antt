@@ -23,7 +23,7 @@ use Rattle.image.specs.Accepted.{Accepted}
 use Rattle.image.proofs.Refusals.{answered_exactly, first_only}
 use Rattle.image.proofs.Images.{record_holding}
 use Rattle.image.proofs.Flags.{rows_flagged, names_flagged}
-use Rattle.chart.specs.declared.Judged.{Judged}
+use Rattle.chart.specs.Answer.{Judged}
 use Rattle.chart.specs.Judge.{chart_rows, judge_rows, Answered, JudgeIs}
 use Rattle.chart.specs.Demand.{Judgeable, DemandTwo}
 use Rattle.chart.proofs.Judges.{judge_passes}

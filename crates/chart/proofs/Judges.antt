@@ -1,8 +1,8 @@
 -- Laws of `JudgeIs`: a filled chart gives the answer, and only one outcome meets the record, result and every word of the chart.
 -- Assumes nothing.
-use mathlib.Core.Path.{◌≡◌, refl, sym, ap, ◌∙◌, subst⁻¹}
-use mathlib.Core.Logic.{◌≢◌, ⊎_elim}
-use mathlib.Core.Bool.{Bool, false}
+use mathlib.Core.Path.{◌≡◌, refl, sym, ◌∙◌, subst⁻¹}
+use mathlib.Core.Logic.{⊎_elim}
+use mathlib.Core.Bool.{Bool}
 use mathlib.Core.List.{List}
 use Prim.Native.Nat.{ℕ, ◌≤◌, ◌<◌}
 use native.Mathlib.Nat.{lt_of_not-le, le_refl}
@@ -10,6 +10,7 @@ use native.Mathlib.Decide.{ℕ_discrete, dec_le}
 use native.Mathlib.Omega.{arith}
 use lib.ListN.{length, get_or}
 use lib.Seq.{ext_get_or}
+use Rattle.std.specs.declared.result.Result.TheVariants.{Ok, Err}
 use Rattle.bits.specs.Truth.{Decides}
 use Rattle.bits.proofs.Truths.{decides_as, decides_only, lt_or_ge}
 use Rattle.bits.proofs.Words.{same_bits}
@@ -28,10 +29,14 @@ use Rattle.derivation.proofs.Bound.{firings_le}
 use Rattle.layout.specs.Layout.{decode}
 use Rattle.image.specs.Refusal.{First}
 use Rattle.image.specs.Image.{image_rows, event_rows, record_rows, Names}
+use Rattle.image.specs.Answer.{number_of, rule_of}
+use Rattle.image.specs.declared.numbered.Refusal.{Refusal}
 use Rattle.image.proofs.Refusals.{none, pass, first_only, past_zero}
 use Rattle.image.proofs.Images.{accepted_back}
 use Rattle.image.proofs.Named.{names_same, names_before}
-use Rattle.chart.specs.declared.Judged.{Judged}
+use Rattle.image.proofs.Outcomes.{never_zero}
+use Rattle.chart.specs.declared.Judgement.{Judgement}
+use Rattle.chart.specs.Answer.{Judged, judged}
 use Rattle.columns.specs.Fill.{Columns, ones_to, TopHas}
 use Rattle.chart.specs.Judge.{chart_rows, judge_rows, Shows, Answered, JudgeIs}
 use Rattle.chart.specs.Demand.{Judgeable}
@@ -63,28 +68,22 @@ module _ (g : Grammar) (ok : Sound g) (w c₀ c : List ℕ) (m : ℕ) (whole : C
   }
 
 -- ---- what a refusal answers, and what success does
-module _ (b w c₀ c : List ℕ) (r : Judged) where
-  pub refusal : (n m : ℕ) → n ≢ 0 → First (judge_rows b w c₀) n → Names (decode b) n m
-      → r ≡ record { refusal = n; rule = m; admitted = false; items = 0; firings = 0 } → c ≡ c₀ → JudgeIs b w c₀ r c
-  refusal n m z p q e k = record {
-    refusal = subst⁻¹ (First (judge_rows b w c₀)) (ap (λ (t : Judged). t.refusal) e) p;
-    rule = subst⁻¹ (λ (t : Judged). Names (decode b) t.refusal t.rule) e q;
-    refused = λ _. record {
-      admitted = ap (λ (t : Judged). t.admitted) e;
-      items = ap (λ (t : Judged). t.items) e;
-      firings = ap (λ (t : Judged). t.firings) e;
-      kept = k;
-    };
-    answered = λ y. absurd (z (ap (λ (t : Judged). t.refusal) (sym e) ∙ y));
+module _ (b w c : List ℕ) where
+  pub refuses : (e : Refusal) → First (judge_rows b w c) (number_of e) → Names (decode b) (number_of e) (rule_of e) → JudgeIs b w c (judged (Err e)) c
+  refuses e p q = record {
+    refusal = p;
+    rule = q;
+    refused = λ _. record { admitted = refl; items = refl; firings = refl; kept = refl };
+    answered = λ z. absurd (never_zero e z);
   }
 
-  pub success : r.refusal ≡ 0 → r.rule ≡ 0 → First (judge_rows b w c₀) 0 → Answered (decode b) w c₀ r c → JudgeIs b w c₀ r c
-  success z m p a = record {
-    refusal = subst⁻¹ (First (judge_rows b w c₀)) z p;
-    rule = names_before (omega arith) m;
-    refused = λ y. absurd (y z);
-    answered = λ _. a;
-  }
+pub answers : (b w c₀ c : List ℕ) (j : Judgement) → First (judge_rows b w c₀) 0 → Answered (decode b) w c₀ (judged (Ok j)) c → JudgeIs b w c₀ (judged (Ok j)) c
+answers b w c₀ c j p a = record {
+  refusal = p;
+  rule = names_before (omega arith) refl;
+  refused = λ y. absurd (y refl);
+  answered = λ _. a;
+}
 
 -- ---- what passes
 pub judge_passes : (b w chart : List ℕ) → Judgeable b w chart → First (judge_rows b w chart) 0

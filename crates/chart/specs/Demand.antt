@@ -10,7 +10,7 @@ use Rattle.layout.specs.Layout.{decode}
 use Rattle.image.specs.Exactly.{Exactly}
 use Rattle.image.specs.Image.{most_events}
 use Rattle.image.specs.Accepted.{Accepted}
-use Rattle.chart.specs.declared.Judged.{Judged}
+use Rattle.chart.specs.Answer.{Judged}
 
 -- an accepted grammar, a record that is not too long, and room enough
 pub record Judgeable (b w chart : List ℕ) : Type 0 where

@@ -11,7 +11,7 @@ use Rattle.derivation.specs.Chart.{cell_at, cells, Findings, items, firings, fir
 use Rattle.layout.specs.Layout.{decode}
 use Rattle.image.specs.Refusal.{Row, ◌unless◌, First}
 use Rattle.image.specs.Image.{record_rows, Names}
-use Rattle.chart.specs.declared.Judged.{Judged}
+use Rattle.chart.specs.Answer.{Judged}
 
 -- the refusals of the record, and then 9
 abbrev pub chart_rows : (n size : ℕ) → List Row

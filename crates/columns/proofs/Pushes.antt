@@ -3,14 +3,16 @@
 -- Assumes nothing.
 use mathlib.Core.Path.{◌≡◌, refl, sym, ap, ap₂, ◌∙◌}
 use mathlib.Core.Logic.{⊎_elim}
-use mathlib.Core.List.{List}
-use Prim.Native.Nat.{ℕ, suc, ◌+◌, ◌-◌, ◌≤◌, ◌<◌, min, max}
-use native.Mathlib.Nat.{add-zero, max-zero, eq-or-lt_of_le, le_of_suc-le-suc}
+use mathlib.Core.List.{List, [], ◌∷◌, ◌++◌}
+use Prim.Native.Nat.{ℕ, zero, suc, ◌+◌, ◌-◌, ◌≤◌, ◌<◌, min, max}
+use native.Mathlib.Nat.{le_refl, add-zero, max-zero, eq-or-lt_of_le, le_of_suc-le-suc}
 use native.Mathlib.Numerals.{add-one}
 use native.Mathlib.Omega.{arith}
 use lib.Bits.{bit_or}
-use lib.ListN.{length, get_or, set}
-use lib.Seq.{get_or-set_same, get_or-set_other}
+use lib.ListN.{length, get_or, set, take, drop}
+use lib.Seq.{get_or-set_same, get_or-set_other, get_or-take, get_or-drop}
+use Rattle.std.proofs.lemmas.List.{get_or-append_right, set-append_right}
+use Rattle.std.specs.List.{fold}
 use Rattle.bits.specs.Bit.{bit}
 use Rattle.bits.specs.Frame.{Framed, Zeros}
 use Rattle.bits.specs.Sum.{sum, between}
@@ -50,16 +52,24 @@ sum_grown n j F H G l grown stay =
     omega (arith, a, b, c, d)
 
 -- ---- the symbols of a column
-pub standing_none : (c : List ℕ) (j u : ℕ) → Standing c j 0 u
-standing_none c j u = record { among = λ i l. absurd (omega arith) }
+or_keeps : (words : List ℕ) (u A : ℕ) → bit u A ≤ bit (fold bit_or u words) A
+or_keeps [] u A = le_refl (bit u A)
+or_keeps (w ∷ words) u A = omega (arith, bit_or_is u w A, or_keeps words (bit_or u w) A)
 
-pub standing_more : (c : List ℕ) (j m u w : ℕ) → w ≡ rd c m j → Standing c j m u → Standing c j (m + 1) (bit_or u w)
-standing_more c j m u w e s = record {
-  among = λ i l A. ⊎_elim
-      (λ (z : i ≡ m). rw z (omega (arith, bit_or_is u w A, ap (λ (x : ℕ). bit x A) e)))
-      (λ (o : i < m). omega (arith, bit_or_is u w A, s.among i o A))
-      (eq-or-lt_of_le (le_of_suc-le-suc (rw (add-one m) at l)));
-}
+or_has : (words : List ℕ) (u i A : ℕ) → i < length words → bit (get_or words i 0) A ≤ bit (fold bit_or u words) A
+or_has [] u i A l = absurd (omega arith)
+or_has (w ∷ words) u zero A l = omega (arith, bit_or_is u w A, or_keeps words (bit_or u w) A)
+or_has (w ∷ words) u (suc i) A l = or_has words (bit_or u w) i A (le_of_suc-le-suc l)
+
+pub standing_all : (words : List ℕ) → Standing words (fold bit_or 0 words)
+standing_all words = record { among = λ i l A. or_has words 0 i A l }
+
+-- the left parts lie side by side in an older column
+pub left_at : (older c₀ : List ℕ) (first b j k i : ℕ) → older ≡ take b c₀ → first ≡ cell_at 0 j → b ≡ cell_at 0 k → i < j → j < k
+    → get_or (take (first + j - first) (drop first older)) i 0 ≡ rd c₀ i j
+left_at older c₀ first b j k i e z y inside short =
+    get_or-take (first + j - first) (drop first older) i 0 (omega arith) ∙ get_or-drop first older i 0 ∙ ap (λ (l : List ℕ). get_or l (first + i) 0) e
+    ∙ get_or-take b c₀ (first + i) 0 (omega (arith, before_mono j k short)) ∙ ap (λ (x : ℕ). get_or c₀ x 0) (omega arith)
 
 module _ (g : Grammar) where
   -- ---- one split
@@ -78,36 +88,45 @@ module _ (g : Grammar) where
       nothing : (i : ℕ) → Concluded g (rd c i j) (rd c j k) (record { word = rd c i k; count = 0 }) (record { word = rd c i k; count = 0 })
       nothing i = none_right g (rd c i j) (rd c j k) z (record { word = rd c i k; count = 0 })
 
-  -- the left parts lie in an older column
-  left_stays : (j k i m n : ℕ) (c₀ c : List ℕ) → i < j → j < k → Pushed g j k c₀ c m n → rd c i j ≡ rd c₀ i j
-  left_stays j k i m n c₀ c inside short was = was.frame.before _ (omega (arith, before_mono j k short))
+  pub left_ready : (words : List ℕ) (t : List Fired) (i u v : ℕ) → i < length words → Standing words u → Ready g v u t → Ready g v (get_or words i 0) t
+  left_ready words t i u v inside all r = ready_part g v u (get_or words i 0) t (all.among i inside) r
 
-  pub left_ready : (j k i m n u v w : ℕ) (c₀ c t : List ℕ) → i < j → j < k → w ≡ rd c i j → Pushed g j k c₀ c m n → Standing c₀ j j u → Ready g v u t → Ready g v w t
-  left_ready j k i m n u v w c₀ c t inside short e was all r =
-      ready_part g v u w t (λ A. omega (arith, all.among i inside A, ap (λ (x : ℕ). bit x A) (e ∙ left_stays j k i m n c₀ c inside short was))) r
+  module _ (j k i n left : ℕ) (c₀ older column : List ℕ) (f : Fired) (inside : i < j) (long : length older ≡ cell_at 0 k) (here : i < length column)
+      (is : left ≡ rd c₀ i j) (was : Pushed g j k c₀ (older ++ column) i n)
+      (o : Concluded g left (rd c₀ j k) (record { word = get_or column i 0; count = n }) f) where
+    -- the older columns stand before the words from this one on
+    apart : cell_at i k - cell_at 0 k ≡ i
+    apart = omega arith
 
-  module _ (j k i at n : ℕ) (c₀ c : List ℕ) (f : Fired) (inside : i < j) (short : j < k) (is : at ≡ cell_at i k) (here : at < length c)
-      (was : Pushed g j k c₀ c i n) (o : Concluded g (rd c i j) (rd c₀ j k) (record { word = get_or c at 0; count = n }) f) where
-    left_was : rd c i j ≡ rd c₀ i j
-    left_was = left_stays j k i i n c₀ c inside short was
+    stored : set (older ++ column) (cell_at 0 k + i) f.word ≡ older ++ set column i f.word
+    stored = set-append_right older column (cell_at 0 k) (cell_at 0 k + i) f.word long (omega arith) ∙ ap (λ (y : ℕ). older ++ set column y f.word) (omega arith)
 
-    word_was : get_or c at 0 ≡ rd c₀ i k
-    word_was = was.frame.after at (omega arith) ∙ ap (λ (y : ℕ). get_or c₀ y 0) is
+    word_was : get_or column i 0 ≡ rd c₀ i k
+    word_was =
+        ap (λ (y : ℕ). get_or column y 0) (sym apart) ∙ sym (get_or-append_right older column (cell_at 0 k) (cell_at i k) 0 long (omega arith))
+        ∙ was.frame.after (cell_at i k) (omega arith)
 
-    here_now : (A : ℕ) → bit (rd (set c at f.word) i k) A ≡ max (bit (rd c₀ i k) A) (min 1 (conclusions g (rd c₀ i j) (rd c₀ j k) A))
+    word_now : rd (older ++ set column i f.word) i k ≡ f.word
+    word_now =
+        get_or-append_right older (set column i f.word) (cell_at 0 k) (cell_at i k) 0 long (omega arith)
+        ∙ ap (λ (y : ℕ). get_or (set column i f.word) y 0) apart ∙ get_or-set_same column i f.word 0 here
+
+    here_now : (A : ℕ) → bit (rd (older ++ set column i f.word) i k) A ≡ max (bit (rd c₀ i k) A) (min 1 (conclusions g (rd c₀ i j) (rd c₀ j k) A))
     here_now A =
-        ap (λ (x : ℕ). bit x A) (ap (λ (y : ℕ). get_or (set c at f.word) y 0) (sym is) ∙ get_or-set_same c at f.word 0 here)
-        ∙ o.word A ∙ ap₂ (λ (x y : ℕ). max (bit x A) (min 1 (conclusions g y (rd c₀ j k) A))) word_was left_was
+        ap (λ (x : ℕ). bit x A) word_now
+        ∙ o.word A ∙ ap₂ (λ (x y : ℕ). max (bit x A) (min 1 (conclusions g y (rd c₀ j k) A))) word_was is
 
-    pub pushed_step : Pushed g j k c₀ (set c at f.word) (i + 1) f.count
+    word_other : (x : ℕ) → x < i → rd (older ++ set column i f.word) x k ≡ rd (older ++ column) x k
+    word_other x l = ap (λ (c : List ℕ). rd c x k) (sym stored) ∙ get_or-set_other (older ++ column) (cell_at 0 k + i) _ f.word 0 (λ e. omega arith)
+
+    pub pushed_step : Pushed g j k c₀ (older ++ set column i f.word) (i + 1) f.count
     pushed_step = record {
-      frame =
-          let z : cell_at 0 k + i ≡ at = omega arith in
-          rw z at (framed_set c₀ c (cell_at 0 k) (i + 1) i f.word (framed_wider c₀ c (cell_at 0 k) i (i + 1) (omega arith) was.frame) (omega arith));
+      frame = rw stored at (framed_set c₀ (older ++ column) (cell_at 0 k) (i + 1) i f.word
+          (framed_wider c₀ (older ++ column) (cell_at 0 k) i (i + 1) (omega arith) was.frame) (omega arith));
       cell = λ x l. ⊎_elim (λ (z : x ≡ i). rw z here_now)
-          (λ (s : x < i). λ A. ap (λ (y : ℕ). bit y A) (get_or-set_other c at _ f.word 0 (λ e. omega arith)) ∙ was.cell x s A)
+          (λ (s : x < i). λ A. ap (λ (y : ℕ). bit y A) (word_other x s) ∙ was.cell x s A)
           (eq-or-lt_of_le (le_of_suc-le-suc (rw (add-one i) at l)));
-      counted = o.count ∙ ap₂ ◌+◌ was.counted (ap (λ (y : ℕ). hits g y (rd c₀ j k)) left_was) ∙ sym (sum_more i _);
+      counted = o.count ∙ ap₂ ◌+◌ was.counted (ap (λ (y : ℕ). hits g y (rd c₀ j k)) is) ∙ sym (sum_more i _);
     }
 
   -- ---- the splits above p

@@ -24,9 +24,9 @@ pub record CellFilled (g : Grammar) (i k : ℕ) (before after : List ℕ) (n : �
   pub other : (y : ℕ) → y ≢ cell_at i k → get_or after y 0 ≡ get_or before y 0
   pub cell : CellIs g before i k (record { word = rd after i k; count = n })
 
--- the symbols of the first m cells that end at j are all in u
-pub record Standing (c : List ℕ) (j m u : ℕ) : Type 0 where
-  pub among : (i : ℕ) → i < m → (A : ℕ) → bit (rd c i j) A ≤ bit u A
+-- the symbols of all these words are in u
+pub record Standing (words : List ℕ) (u : ℕ) : Type 0 where
+  pub among : (i : ℕ) → i < length words → (A : ℕ) → bit (get_or words i 0) A ≤ bit u A
 
 -- split j of the cells that end at k is pushed into the first m of them: what the rules conclude over the words of (i, j) and (j, k) stands in the
 -- word of (i, k) too, and n is how often they match; no other word changed

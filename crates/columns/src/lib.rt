@@ -1,19 +1,19 @@
 // Cells and columns: each column from the words of the older ones as they stand.
 #![tactic(auto)]
 
-ghost use Rattle.std.specs.Prelude.{◌≡◌, ◌+◌, ◌≤◌, ◌<◌, ◌^◌, length};
+ghost use Rattle.std.specs.Prelude.{◌≡◌, ◌+◌, ◌≤◌, ◌<◌, ◌^◌, length, IfSome};
 ghost use Rattle.derivation.specs.Grammar.{event_rule_count};
 ghost use Rattle.derivation.specs.Chart.{cells_before, cell_at, cells};
-ghost use Rattle.layout.specs.Layout.{decode};
-ghost use Rattle.image.specs.Accepted.{Accepted};
+ghost use Rattle.image.specs.Shown.{shown};
 ghost use Rattle.groups.specs.Group.{Grouped};
 ghost use Rattle.columns.specs.Fill.{CellFilled, Standing, Pushed, Columns};
 ghost use Rattle.columns.specs.NewColumn.{rd, in_chart, ColumnFilled};
 ghost use Rattle.bits.specs.Frame.{Framed, Zeros};
 ghost use Rattle.kernel.specs.Fire.{Heard};
-ghost use Rattle.kernel.specs.Apply.{ready_words};
 ghost use Rattle.marks.specs.Shown.{InUse, Lefts, Shown};
 
+use groups::Groups;
+use image::Grammar;
 use kernel::Fired;
 
 // The word of cell (i, k).
@@ -27,22 +27,21 @@ pub fn read_cell(chart: &[u64], i: usize, k: usize) -> u64
 
 // Works out cell (i, k) by the marks, all splits at once, stores it and marks its symbols.
 fn fill_cell(
-    image: &[u8],
-    grouped: &[u64; 768],
+    grammar: Grammar<'_>,
+    grouped: &Groups,
     lefts: &mut [u64],
     rights: &mut [u64],
     chart: &mut [u64],
     i: usize,
     k: usize,
 ) -> u64
-    requires accepted { Accepted image.now }
-    requires grouped { Grouped (decode image.now) grouped.now }
+    requires grouped { Grouped (shown grammar) grouped.now }
     requires i_lt_k { (i < k) × (k < 65536) × (cells_before k + k ≤ length chart.old) }
     requires in_use { InUse lefts.old × Shown 64 (in_chart chart.old) lefts.old rights.old (i + 1) k }
-    ensures { CellFilled (decode image.now) i k chart.old chart.new result × (result ≤ 2 ^ 24)
+    ensures { CellFilled (shown grammar.entry) i k chart.old chart.new result × (result ≤ 2 ^ 24)
         × Shown 64 (in_chart chart.new) lefts.new rights.new i k }
 {
-    let f = kernel::fire_marks(image, grouped, lefts, i, rights);
+    let f = kernel::fire_marks(grammar, grouped, lefts, i, rights);
     let at = derivation::cell_at(i, k);
     chart[at] = f.word;
     marks::mark_cell(lefts, rights, i, k, f.word);
@@ -54,55 +53,43 @@ pub fn clear_cells(chart: &mut [u64], first: usize, n: usize)
     requires { first + n ≤ length chart.old }
     ensures { Framed chart.old chart.new first n × Zeros chart.new first n }
 {
-    for x in 0..n {
-        let at = first + x;
-        chart[at] = 0;
-    }
+    chart[first..first + n].fill(0);
 }
 
-// All symbols of the cells that end at j.
-fn standing(chart: &[u64], j: usize) -> u64
-    requires { (j < 65536) × (cells_before j + j ≤ length chart.now) }
-    ensures { Standing chart.now j j result }
+// All symbols of some cells.
+fn standing(words: &[u64]) -> u64
+    ensures { Standing words.now result }
 {
-    let mut all: u64 = 0;
-    for x in 0..j {
-        all = all | read_cell(chart, x, j);
-    }
-    all
+    words.iter().fold(0, |all, word| all | word)
 }
 
 // Split j of the cells that end at k: what the right part (j, k) makes with each left part (i, j) goes into cell (i, k). What the rules of a left
 // symbol make is worked out once for all left parts that have it, into `made`. Answers the split's firings.
 fn push_split(
-    image: &[u8],
-    grouped: &[u64; 768],
-    made: &mut [u64; 128],
+    grammar: Grammar<'_>,
+    grouped: &Groups,
+    made: &mut [Fired; 64],
     chart: &mut [u64],
     j: usize,
     k: usize,
 ) -> u64
-    requires accepted { Accepted image.now }
-    requires grouped { Grouped (decode image.now) grouped.now }
-    requires made_len { length made.old ≡ ready_words }
-    requires j_lt_k { (j < k) × (k < 65536) × (cells_before k + k ≤ length chart.old) }
-    ensures { Pushed (decode image.now) j k chart.old chart.new j result × (result ≤ 2 ^ 24)
-        × (length made.new ≡ ready_words) }
+    requires grouped { Grouped (shown grammar) grouped.now }
+    requires j_lt_k { (0 < j) × (j < k) × (k < 65536) × (cells_before k + k ≤ length chart.old) }
+    ensures { Pushed (shown grammar.entry) j k chart.old chart.new j result × (result ≤ 2 ^ 24) }
 {
     let right = read_cell(chart, j, k);
     if right == 0 {
         return 0;
     }
-    let wanted = standing(chart, j);
-    kernel::make_ready(image, grouped, wanted, right, made);
-    let first = derivation::cell_at(0, k);
+    let first = derivation::cell_at(0, j);
+    let (older, column) = chart.split_at_mut(derivation::cell_at(0, k));
+    let lefts = &older[first..first + j];
+    kernel::make_ready(grammar, grouped, standing(lefts), right, made);
     let mut count: u64 = 0;
-    for i in 0..j {
-        let left = read_cell(chart, i, j);
-        let at = first + i;
-        let word = chart[at];
-        let f = kernel::fire_pairs(image, made, left, right, Fired { word, count });
-        chart[at] = f.word;
+    for (i, left) in lefts.iter().enumerate() {
+        let word = column[i];
+        let f = kernel::fire_pairs(grammar, made, *left, right, Fired { word, count });
+        column[i] = f.word;
         count = f.count;
     }
     count
@@ -110,55 +97,52 @@ fn push_split(
 
 // Column q without marks: the cells that end at q + 1, split after split from the last down, so that each right part is whole when it is pushed.
 fn push_cells(
-    image: &[u8],
-    grouped: &[u64; 768],
-    heard: &[u64],
+    grammar: Grammar<'_>,
+    grouped: &Groups,
+    heard: Option<&[u64; 16]>,
     event: usize,
     chart: &mut [u64],
     q: usize,
 ) -> u64
-    requires accepted { Accepted image.now }
-    requires grouped { Grouped (decode image.now) grouped.now }
+    requires grouped { Grouped (shown grammar) grouped.now }
     requires q_bound { (q + 1 < 65536) × (cell_at q (q + 1) < length chart.old) }
-    requires heard { 16 ≤ length heard.now → Heard (decode image.now) heard.now (event_rule_count (decode image.now)) }
-    ensures { ColumnFilled (decode image.now) event chart.old chart.new q result × (result ≤ 2 ^ 41) }
+    requires heard { IfSome heard (λ h. Heard (shown grammar) h.now (event_rule_count (shown grammar))) }
+    ensures { ColumnFilled (shown grammar.entry) event chart.old chart.new q result × (result ≤ 2 ^ 41) }
 {
     let k = q + 1;
-    let leaf = kernel::fire_event(image, heard, event);
+    let leaf = kernel::fire_event(grammar, heard, event);
     let first = derivation::cell_at(0, k);
     clear_cells(chart, first, q);
     let last = first + q;
     chart[last] = leaf.word;
-    let mut made = [0u64; 128];
+    let mut made = [Fired::NONE; 64];
     let mut count = leaf.count;
-    for x in 0..q {
-        let j = q - x;
-        count += push_split(image, grouped, &mut made, chart, j, k);
+    for j in (1..k).rev() {
+        count += push_split(grammar, grouped, &mut made, chart, j, k);
     }
     count
 }
 
 // Column q by marks: the cells from the last down. Where its event makes no symbol, no stretch that ends with it has one.
 fn fill_cells(
-    image: &[u8],
-    grouped: &[u64; 768],
-    heard: &[u64],
+    grammar: Grammar<'_>,
+    grouped: &Groups,
+    heard: Option<&[u64; 16]>,
     lefts: &mut [u64],
     rights: &mut [u64],
     event: usize,
     chart: &mut [u64],
     q: usize,
 ) -> u64
-    requires accepted { Accepted image.now }
-    requires grouped { Grouped (decode image.now) grouped.now }
+    requires grouped { Grouped (shown grammar) grouped.now }
     requires q_bound { (q + 1 < 65536) × (cell_at q (q + 1) < length chart.old) }
     requires in_use { InUse lefts.old × Shown 64 (in_chart chart.old) lefts.old rights.old (q + 1) (q + 1) }
-    requires heard { 16 ≤ length heard.now → Heard (decode image.now) heard.now (event_rule_count (decode image.now)) }
-    ensures { ColumnFilled (decode image.now) event chart.old chart.new q result × (result ≤ 2 ^ 41)
+    requires heard { IfSome heard (λ h. Heard (shown grammar) h.now (event_rule_count (shown grammar))) }
+    ensures { ColumnFilled (shown grammar.entry) event chart.old chart.new q result × (result ≤ 2 ^ 41)
         × Shown 64 (in_chart chart.new) lefts.new rights.new 0 (q + 1) }
 {
     let k = q + 1;
-    let leaf = kernel::fire_event(image, heard, event);
+    let leaf = kernel::fire_event(grammar, heard, event);
     let at = derivation::cell_at(q, k);
     chart[at] = leaf.word;
     marks::mark_cell(lefts, rights, q, k, leaf.word);
@@ -168,87 +152,79 @@ fn fill_cells(
         return leaf.count;
     }
     let mut count = leaf.count;
-    for x in 0..q {
-        let i = q - 1 - x;
-        count += fill_cell(image, grouped, lefts, rights, chart, i, k);
+    for i in (0..q).rev() {
+        count += fill_cell(grammar, grouped, lefts, rights, chart, i, k);
     }
     count
 }
 
 // Column q, where there are marks by them, with those of its right parts.
 fn fill_column(
-    image: &[u8],
-    grouped: &[u64; 768],
-    heard: &[u64],
+    grammar: Grammar<'_>,
+    grouped: &Groups,
+    heard: Option<&[u64; 16]>,
     lefts: &mut [u64],
     event: usize,
     chart: &mut [u64],
     q: usize,
 ) -> u64
-    requires accepted { Accepted image.now }
-    requires grouped { Grouped (decode image.now) grouped.now }
+    requires grouped { Grouped (shown grammar) grouped.now }
     requires q_bound { (q + 1 < 65536) × (cell_at q (q + 1) < length chart.old) × (InUse lefts.old → Lefts 64 (in_chart chart.old) lefts.old (q + 1) (q + 1)) }
-    requires heard { 16 ≤ length heard.now → Heard (decode image.now) heard.now (event_rule_count (decode image.now)) }
-    ensures { ColumnFilled (decode image.now) event chart.old chart.new q result × (result ≤ 2 ^ 41)
+    requires heard { IfSome heard (λ h. Heard (shown grammar) h.now (event_rule_count (shown grammar))) }
+    ensures { ColumnFilled (shown grammar.entry) event chart.old chart.new q result × (result ≤ 2 ^ 41)
         × (InUse lefts.new → Lefts 64 (in_chart chart.new) lefts.new 0 (q + 1)) }
 {
     if lefts.len() < marks::LEFTS {
-        return push_cells(image, grouped, heard, event, chart, q);
+        return push_cells(grammar, grouped, heard, event, chart, q);
     }
     let mut rights = [0u64; marks::BLOCK];
-    fill_cells(image, grouped, heard, lefts, &mut rights, event, chart, q)
+    fill_cells(grammar, grouped, heard, lefts, &mut rights, event, chart, q)
 }
 
 // Column q alone, without marks, which would have to be made of all the older columns first.
-pub fn fill_one(image: &[u8], event: usize, chart: &mut [u64], q: usize) -> u64
-    requires accepted { Accepted image.now }
+pub fn fill_one(grammar: Grammar<'_>, event: usize, chart: &mut [u64], q: usize) -> u64
     requires q_bound { (q + 1 < 65536) × (cell_at q (q + 1) < length chart.old) }
-    ensures { ColumnFilled (decode image.now) event chart.old chart.new q result }
+    ensures { ColumnFilled (shown grammar.entry) event chart.old chart.new q result }
 {
-    let mut grouped = [0u64; 768];
-    groups::group_rules(image, &mut grouped);
-    let unheard = [0u64; 1];
-    push_cells(image, &grouped, &unheard, event, chart, q)
+    let mut grouped = Groups::NONE;
+    groups::group_rules(grammar, &mut grouped);
+    push_cells(grammar, &grouped, None, event, chart, q)
 }
 
 // All columns of a record.
 fn fill_columns(
-    image: &[u8],
-    grouped: &[u64; 768],
-    heard: &[u64],
+    grammar: Grammar<'_>,
+    grouped: &Groups,
+    heard: Option<&[u64; 16]>,
     lefts: &mut [u64],
     events: &[u16],
     chart: &mut [u64],
 ) -> u64
-    requires accepted { Accepted image.now }
-    requires grouped { Grouped (decode image.now) grouped.now }
+    requires grouped { Grouped (shown grammar) grouped.now }
     requires events_len_bound { (length events.now < 65536) × (cells (length events.now) ≤ length chart.old) }
     requires events_len_bound_2 { InUse lefts.old → (length events.now ≤ 96) × Lefts 64 (in_chart chart.old) lefts.old 1 1 }
-    requires heard { 16 ≤ length heard.now → Heard (decode image.now) heard.now (event_rule_count (decode image.now)) }
-    ensures { Columns (decode image.now) events.now chart.old chart.new (length events.now) result }
+    requires heard { IfSome heard (λ h. Heard (shown grammar) h.now (event_rule_count (shown grammar))) }
+    ensures { Columns (shown grammar.entry) events.now chart.old chart.new (length events.now) result }
 {
     let mut count: u64 = 0;
-    for q in 0..events.len() {
-        let event = events[q] as usize;
-        count += fill_column(image, grouped, heard, lefts, event, chart, q);
+    for (q, event) in events.iter().enumerate() {
+        count += fill_column(grammar, grouped, heard, lefts, *event as usize, chart, q);
     }
     count
 }
 
 // The whole chart of a record; answers its firings.
-pub fn fill_chart(image: &[u8], events: &[u16], chart: &mut [u64]) -> u64
-    requires accepted { Accepted image.now }
+pub fn fill_chart(grammar: Grammar<'_>, events: &[u16], chart: &mut [u64]) -> u64
     requires events_len_bound { (length events.now < 65536) × (cells (length events.now) ≤ length chart.old) }
-    ensures { Columns (decode image.now) events.now chart.old chart.new (length events.now) result }
+    ensures { Columns (shown grammar.entry) events.now chart.old chart.new (length events.now) result }
 {
-    let mut grouped = [0u64; 768];
-    groups::group_rules(image, &mut grouped);
+    let mut grouped = Groups::NONE;
+    groups::group_rules(grammar, &mut grouped);
     if marks::pay(events.len()) {
-        let heard = kernel::events_of(image);
+        let heard = kernel::events_of(grammar);
         let mut lefts = [0u64; marks::LEFTS];
-        return fill_columns(image, &grouped, &heard, &mut lefts, events, chart);
+        return fill_columns(grammar, &grouped, Some(&heard), &mut lefts, events, chart);
     }
-    let unheard = [0u64; 1];
     let mut none = [0u64; 1];
-    fill_columns(image, &grouped, &unheard, &mut none, events, chart)
+    fill_columns(grammar, &grouped, None, &mut none, events, chart)
 }

@@ -27,8 +27,5 @@ pub fn script_words(n: usize) -> usize
     requires { n < 65536 }
     ensures { result ≡ script_word_count n }
 {
-    if n == 0 {
-        return 0;
-    }
-    2 * (2 * n - 1)
+    2 * (2 * n).saturating_sub(1)
 }

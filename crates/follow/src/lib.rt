@@ -5,78 +5,69 @@ ghost use Rattle.std.specs.Prelude.{◌≡◌, ◌+◌, ◌-◌, ◌≤◌, ◌<
 ghost use Rattle.bits.specs.Truth.{Decides};
 ghost use Rattle.derivation.specs.Tree.{LeafOk, NodeOk, script_word_count, Spells};
 ghost use Rattle.derivation.specs.Reading.{IsReading};
-ghost use Rattle.layout.specs.Layout.{decode};
-ghost use Rattle.image.specs.Accepted.{Accepted};
+ghost use Rattle.image.specs.Shown.{shown};
+
+use image::Grammar;
 
 // Whether rule r, with p in the split's place, is a derivation of the symbol over event i+1 alone.
-fn is_leaf(image: &[u8], events: &[u16], symbol: usize, i: usize, r: usize, p: usize) -> bool
-    requires accepted { Accepted image.now }
-    requires i_in_bounds { (i < length events.now) × (i < 65536) }
-    ensures { Decides result (LeafOk (decode image.now) events.now symbol i (i + 1) r p) }
+fn is_leaf(
+    grammar: Grammar<'_>,
+    events: &[u16],
+    symbol: usize,
+    i: usize,
+    r: usize,
+    p: usize,
+) -> bool
+    requires { (i < length events.now) × (i < 65536) }
+    ensures { Decides result (LeafOk (shown grammar.entry) events.now symbol i (i + 1) r p) }
 {
-    if layout::leaf_count(image) <= r {
-        return false;
-    }
-    if p != i + 1 {
-        return false;
-    }
-    let event = events[i] as usize;
-    lookup::turns(image, r, symbol, event)
+    r < grammar.leaf_count()
+        && p == i + 1
+        && lookup::turns(grammar, r, symbol, usize::from(events[i]))
 }
 
 // Whether rule r and split j are the root of a derivation of the symbol over i to k, so far as the root goes.
-fn is_node(image: &[u8], symbol: usize, i: usize, k: usize, r: usize, j: usize) -> bool
-    requires { Accepted image.now }
-    ensures { Decides result (NodeOk (decode image.now) symbol i k r j) }
+fn is_node(grammar: Grammar<'_>, symbol: usize, i: usize, k: usize, r: usize, j: usize) -> bool
+    ensures { Decides result (NodeOk (shown grammar.entry) symbol i k r j) }
 {
-    let leaves = layout::leaf_count(image);
-    if r < leaves {
-        return false;
-    }
-    if layout::pair_count(image) <= r - leaves {
-        return false;
-    }
-    let p = lookup::pair_of(image, leaves, r - leaves);
-    if p.symbol != symbol {
-        return false;
-    }
-    if j <= i {
-        return false;
-    }
-    if k <= j {
-        return false;
-    }
-    true
+    let leaves = grammar.leaf_count();
+    leaves <= r
+        && r - leaves < grammar.pair_count()
+        && lookup::pair_of(grammar, r - leaves).symbol == symbol
+        && i < j
+        && j < k
 }
 
 // Whether the words are the script of a derivation of the symbol over events i+1 to k.
-fn follows(image: &[u8], events: &[u16], symbol: usize, i: usize, k: usize, script: &[u16]) -> bool
-    requires accepted { Accepted image.now }
-    requires i_lt_k { (i < k) × (k ≤ length events.now) × (k < 65536) × (length script.now ≡ script_word_count (k - i)) }
-    ensures { Decides result (Spells (decode image.now) events.now symbol i k script.now) }
+fn follows(
+    grammar: Grammar<'_>,
+    events: &[u16],
+    symbol: usize,
+    i: usize,
+    k: usize,
+    script: &[u16],
+) -> bool
+    requires { (i < k) × (k ≤ length events.now) × (k < 65536) × (length script.now ≡ script_word_count (k - i)) }
+    ensures { Decides result (Spells (shown grammar.entry) events.now symbol i k script.now) }
 {
-    let r = script[0] as usize;
-    let j = script[1] as usize;
+    let r = usize::from(script[0]);
+    let j = usize::from(script[1]);
     if k == i + 1 {
-        return is_leaf(image, events, symbol, i, r, j);
+        return is_leaf(grammar, events, symbol, i, r, j);
     }
-    if !is_node(image, symbol, i, k, r, j) {
+    if !is_node(grammar, symbol, i, k, r, j) {
         return false;
     }
-    let leaves = layout::leaf_count(image);
-    let p = lookup::pair_of(image, leaves, r - leaves);
+    let p = lookup::pair_of(grammar, r - grammar.leaf_count());
     let mid = 4 * (j - i);
-    if !follows(image, events, p.left, i, j, &script[2..mid]) {
-        return false;
-    }
-    follows(image, events, p.right, j, k, &script[mid..])
+    follows(grammar, events, p.left, i, j, &script[2..mid])
+        && follows(grammar, events, p.right, j, k, &script[mid..])
 }
 
 // Whether the words are the script of a reading.
-pub fn is_reading(image: &[u8], events: &[u16], script: &[u16]) -> bool
-    requires accepted { Accepted image.now }
-    requires events_len_bound { length events.now < 65536 }
-    ensures { Decides result (IsReading (decode image.now) events.now script.now) }
+pub fn is_reading(grammar: Grammar<'_>, events: &[u16], script: &[u16]) -> bool
+    requires { length events.now < 65536 }
+    ensures { Decides result (IsReading (shown grammar.entry) events.now script.now) }
 {
     let n = events.len();
     let words = derivation::script_words(n);
@@ -84,7 +75,7 @@ pub fn is_reading(image: &[u8], events: &[u16], script: &[u16]) -> bool
         return false;
     }
     if n == 0 {
-        return layout::quiet_flag(image) == 1;
+        return grammar.is_quiet();
     }
-    follows(image, events, 0, 0, n, script)
+    follows(grammar, events, 0, 0, n, script)
 }

@@ -13,7 +13,7 @@ use Rattle.derivation.specs.Grammar.{Grammar, rule_total}
 use Rattle.derivation.specs.Sound.{SymbolsFit, Rises, Sound}
 use Rattle.derivation.specs.Live.{Live, Dead}
 use Rattle.derivation.proofs.LiveDecided.{dead_symbol, not_all_live}
-use Rattle.image.specs.declared.Tested.{Tested}
+use Rattle.image.specs.Answer.{Tested}
 use Rattle.image.specs.Refusal.{Row, ◌unless◌, FirstOf, First}
 use Rattle.image.specs.Exactly.{Exactly, demand, AllHold}
 use Rattle.layout.specs.Layout.{decode, Whole}
@@ -73,8 +73,8 @@ bytes_other b n p = (lacks 6 (λ z. omega arith) (omega arith), lacks 7 (λ z. o
     lacks : (m : ℕ) → m ≢ 0 → Lacks m (byte_rows b) → n ≢ m
     lacks m z u e = never (byte_rows b) m z u (subst (First (byte_rows b)) e p)
 
-pub bytes_name : (b : List ℕ) {g : Grammar} (n : ℕ) → First (byte_rows b) n → Names g n 0
-bytes_name b n p = let o = bytes_other b n p in names_none o.0 o.1 refl
+pub bytes_name : (b : List ℕ) {g : Grammar} (n r : ℕ) → First (byte_rows b) n × (r ≡ 0) → Names g n r
+bytes_name b n r p = let o = bytes_other b n p.0 in names_none o.0 o.1 p.1
 
 module _ (b : List ℕ) (n : ℕ) (e : n ≡ 0) (p : First (byte_rows b) n) where
   pub bytes_hold : AllHold (byte_rows b)

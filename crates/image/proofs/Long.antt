@@ -8,7 +8,7 @@ use mathlib.Core.List.{List, ◌∷◌}
 use lib.ListN.{length, take}
 use lib.Seq.{get_or-take, length-take-le}
 use Rattle.derivation.specs.Grammar.{Grammar}
-use Rattle.image.specs.declared.Tested.{Tested}
+use Rattle.image.specs.Answer.{Tested}
 use Rattle.image.specs.Refusal.{Row, ◌unless◌, FirstOf, First}
 use Rattle.bits.specs.Truth.{same}
 use Rattle.layout.specs.Layout.{header_bytes, byte_in, word_in, quiet_in, decode, Sized}

@@ -8,7 +8,7 @@ use Rattle.derivation.specs.Live.{Live}
 use Rattle.rules.specs.Fault.{FirstFault}
 use Rattle.image.specs.Refusal.{Row, ◌unless◌, First}
 use Rattle.layout.specs.Layout.{header_bytes, byte_in, version_in, symbols_in, leaves_in, pairs_in, quiet_in, Sized, decode}
-use Rattle.image.specs.declared.Tested.{Tested}
+use Rattle.image.specs.Answer.{Tested}
 
 -- ---- the demands
 -- bytes 0 to 2 are the letters ESG

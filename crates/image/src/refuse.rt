@@ -1,13 +1,16 @@
 // The rows of the refusal table: one function for each demand on the bytes, and the first row that applies.
-ghost use Rattle.std.specs.Prelude.{◌≤◌, length};
+ghost use Rattle.std.specs.Prelude.{◌≡◌, ◌≤◌, length};
 ghost use Rattle.bits.specs.Truth.{Decides};
 ghost use Rattle.image.specs.Refusal.{First};
 ghost use Rattle.layout.specs.Layout.{header_bytes, decode, Sized, Whole};
 ghost use Rattle.image.specs.Image.{Marked, Versioned, Ranged, byte_rows, rule_rows};
+ghost use Rattle.image.specs.Answer.{number_in, rule_in};
 ghost use Rattle.image.specs.Refuse.{RefusalIs};
 
 use super::Refusal;
-use rules::Demand;
+
+// The letters ESG, with which an image begins.
+const MARK: [u8; 3] = *b"ESG";
 
 const MOST_SYMBOLS: usize = 64;
 
@@ -21,16 +24,7 @@ fn marked(image: &[u8]) -> bool
     requires { header_bytes ≤ length image.now }
     ensures { Decides result (Marked image.now) }
 {
-    if image[0] != 0x45 {
-        return false;
-    }
-    if image[1] != 0x53 {
-        return false;
-    }
-    if image[2] != 0x47 {
-        return false;
-    }
-    true
+    image.starts_with(&MARK)
 }
 
 fn versioned(image: &[u8]) -> bool
@@ -38,13 +32,7 @@ fn versioned(image: &[u8]) -> bool
     ensures { Decides result (Versioned image.now) }
 {
     let version = layout::version(image);
-    if version == 1 {
-        return true;
-    }
-    if version == 2 {
-        return true;
-    }
-    false
+    version == 1 || version == 2
 }
 
 fn ranged(image: &[u8]) -> bool
@@ -79,63 +67,44 @@ fn sized(image: &[u8]) -> bool
 {
     let from = layout::rules_from(image);
     let rules = layout::rule_count(image);
-    if image.len() == from + 3 * rules {
-        return true;
-    }
-    false
+    image.len() == from + 3 * rules
 }
 
-// Refusals 1 to 5, or 0.
-pub fn byte_refusal(image: &[u8]) -> u8
-    ensures { First (byte_rows image.now) result }
+// Refusals 1 to 5.
+pub fn test_bytes(image: &[u8]) -> Result<(), Refusal>
+    ensures { First (byte_rows image.now) (number_in result) × (rule_in result ≡ 0) }
 {
     if image.len() < layout::HEADER_BYTES {
-        return 1;
+        return Err(Refusal::Short);
     }
-    let two = marked(image);
-    if !two {
-        return 2;
+    if !marked(image) {
+        return Err(Refusal::Unmarked);
     }
-    let three = versioned(image);
-    if !three {
-        return 3;
+    if !versioned(image) {
+        return Err(Refusal::UnknownVersion);
     }
-    let four = ranged(image);
-    if !four {
-        return 4;
+    if !ranged(image) {
+        return Err(Refusal::OutOfRange);
     }
-    let five = sized(image);
-    if !five {
-        return 5;
+    if !sized(image) {
+        return Err(Refusal::WrongLength);
     }
-    0
+    Ok(())
 }
 
-// Refusals 6 and 7 with the first rule at fault, 15, or 0.
-pub fn rule_refusal(image: &[u8]) -> Refusal
+// Refusals 6 and 7 with the first rule at fault, and 15.
+pub fn test_rules(image: &[u8]) -> Result<(), Refusal>
     requires { Whole image.now × Ranged image.now }
     ensures { RefusalIs (rule_rows (decode image.now)) (decode image.now) result }
 {
-    let count = layout::rule_count(image);
-    let unfit = rules::first_fault(image, Demand::Fits);
-    if unfit < count {
-        let rule = unfit as u16;
-        return Refusal { refusal: 6, rule };
+    if let Some(rule) = rules::first_unfit(image) {
+        return Err(Refusal::UnknownSymbol(rule as u16));
     }
-    let low = rules::first_fault(image, Demand::Above);
-    if low < count {
-        let rule = low as u16;
-        return Refusal { refusal: 7, rule };
+    if let Some(rule) = rules::first_unordered(image) {
+        return Err(Refusal::OutOfOrder(rule as u16));
     }
-    let live = live::all_live(image);
-    if !live {
-        return Refusal {
-            refusal: 15,
-            rule: 0,
-        };
+    if !live::all_live(image) {
+        return Err(Refusal::DeadSymbol);
     }
-    Refusal {
-        refusal: 0,
-        rule: 0,
-    }
+    Ok(())
 }

@@ -6,7 +6,6 @@ use Prim.Native.Nat.{ℕ, zero, suc, ◌+◌, ◌*◌, ◌^◌, ◌≤◌, ◌<�
 use native.Mathlib.Nat.{mul_assoc, mul-zero, zero-mul, one-mul, zero-add}
 use native.Mathlib.Decide.{ℕ_discrete}
 use native.Mathlib.Omega.{arith}
-use lib.Pow.{pow_pos}
 use Rattle.bits.specs.Truth.{same}
 use Rattle.bits.specs.Bit.{bit}
 use Rattle.bits.proofs.Truths.{same_other}
@@ -14,8 +13,8 @@ use Rattle.bits.proofs.Sums.{sum_cong, sum_zero, sum_le, sum_at, product_le}
 use Rattle.bits.proofs.Bits.{bit_lt, bit_of_zero, bit_one}
 use Rattle.derivation.specs.Grammar.{Grammar, pair_rule_count, pair_rule}
 use lib.Bits.{bit_and}
-use Rattle.groups.specs.Group.{lefts, start_of, group_needs, place_right, Grouped}
-use Rattle.groups.proofs.Places.{place_rule}
+use Rattle.groups.specs.declared.Groups.{Groups}
+use Rattle.groups.specs.Group.{group_needs, Grouped}
 use Rattle.marks.specs.Mark.{stands, meetings, Apart, SeenIn}
 use Rattle.marks.proofs.Marks.{split_lt}
 use Rattle.kernel.specs.declared.Fired.{Fired}
@@ -24,36 +23,23 @@ use Rattle.kernel.specs.Apply.{along, Applied}
 use Rattle.kernel.proofs.Unions.{needed_absent, applied_unmet}
 use Rattle.kernel.proofs.Visits.{rule_matches, rule_conclusions, Visit, visit_word, visit_count}
 
-pub along_one : (t : List ℕ) (r a : ℕ) (u : List ℕ) (c : ℕ) → c < 64 → along t r a u (2 ^ c) ≡ meetings t r a u c
+along_one : (t : List ℕ) (r a : ℕ) (u : List ℕ) (c : ℕ) → c < 64 → along t r a u (2 ^ c) ≡ meetings t r a u c
 unfolding along
 along_one t r a u c l = sum_cong 64 _ _ (λ s h. ap (λ (x : ℕ). meetings t r a u s * x) (bit_one c s)) ∙ sum_at 64 c (meetings t r a u) l
 
-pub meetings_le : (t : List ℕ) (r a : ℕ) (u : List ℕ) (c : ℕ) → meetings t r a u c ≤ 128
+meetings_le : (t : List ℕ) (r a : ℕ) (u : List ℕ) (c : ℕ) → meetings t r a u c ≤ 128
 unfolding meetings
 meetings_le t r a u c = omega (arith, sum_le 128 1 (λ j. stands t r a j * stands u 0 c j) (λ j l. product_le _ _ (split_lt t _ j) (split_lt u _ j)))
 
--- the rule at a place of a group: its right symbol is the first of the place's word
-module _ (g : Grammar) (places : List ℕ) (p : Grouped g places) (fits : (b : ℕ) → b < pair_rule_count g → ((pair_rule g b).left < 64) × ((pair_rule g b).right < 64))
-    (t : List ℕ) (r : ℕ) (u : List ℕ) (a x : ℕ) (small : a < 64) (from : start_of g a ≤ x) (to : x < start_of g a + lefts g a (pair_rule_count g)) where
-  pub place_some : 0 < place_right places x
-  place_some = let b = place_rule g places p a x small from to in rw (← b.2) (pow_pos (pair_rule g b.0).right)
+-- a symbol in the word of one symbol is that one
+pub along_first : (t : List ℕ) (r a : ℕ) (u : List ℕ) (s c : ℕ) → s < 64 → bit (2 ^ s) c ≡ 1 → meetings t r a u c ≡ along t r a u (2 ^ s)
+along_first t r a u s c l h = ap (meetings t r a u) (sym (same_only s c (sym (bit_one s c) ∙ h))) ∙ sym (along_one t r a u s l)
+  where
+    same_only : (x y : ℕ) → same x y ≡ 1 → x ≡ y
+    same_only x y e = elim (ℕ_discrete x y) [ yes q ↦ q | no n ↦ absurd (omega (arith, same_other x y n)) ]
 
-  pub place_le : along t r a u (place_right places x) ≤ 128
-  place_le =
-      let b = place_rule g places p a x small from to in
-      let c = (pair_rule g b.0).right in
-      rw (← b.2) (omega (arith, along_one t r a u c (fits b.0 b.1).1, meetings_le t r a u c))
-
-  pub place_first : (c : ℕ) → bit (place_right places x) c ≡ 1 → meetings t r a u c ≡ along t r a u (place_right places x)
-  place_first c h =
-      let b = place_rule g places p a x small from to in
-      let s = (pair_rule g b.0).right in
-      let own : bit (2 ^ s) c ≡ 1 = rw b.2 h in
-      let e : s ≡ c = same_only s c (sym (bit_one s c) ∙ own) in
-      ap (meetings t r a u) (sym e) ∙ sym (along_one t r a u s (fits b.0 b.1).1) ∙ ap (along t r a u) b.2
-    where
-      same_only : (x y : ℕ) → same x y ≡ 1 → x ≡ y
-      same_only x y e = elim (ℕ_discrete x y) [ yes q ↦ q | no n ↦ absurd (omega (arith, same_other x y n)) ]
+pub along_few : (t : List ℕ) (r a : ℕ) (u : List ℕ) (s : ℕ) → s < 64 → along t r a u (2 ^ s) ≤ 128
+along_few t r a u s l = omega (arith, along_one t r a u s l, meetings_le t r a u s)
 
 -- a symbol that is not seen meets none
 unseen_left : (t : List ℕ) (r w : ℕ) (u : List ℕ) (a c : ℕ) → SeenIn t r w → a < 64 → bit w a ≡ 0 → meetings t r a u c ≡ 0
@@ -71,7 +57,7 @@ unseen_right t r a w u c seen l z = sum_zero 128 _ (λ j h. ap (λ (x : ℕ). st
     none j h = omega (arith, seen c j l h)
 
 -- where none of a group's right symbols is seen, none of its rules matches
-pub group_unmet : (g : Grammar) (places : List ℕ) → Grouped g places → ((b : ℕ) → b < pair_rule_count g → ((pair_rule g b).left < 64) × ((pair_rule g b).right < 64))
+pub group_unmet : (g : Grammar) (places : Groups) → Grouped g places → ((b : ℕ) → b < pair_rule_count g → ((pair_rule g b).left < 64) × ((pair_rule g b).right < 64))
     → (t : List ℕ) (r : ℕ) (u : List ℕ) (w a : ℕ) → SeenIn u 0 w → a < 64 → bit_and w (group_needs places a) ≡ 0 → (f : Fired) → Applied g (along t r a u) a f f
 group_unmet g places p fits t r u w a seen small none f =
     applied_unmet g a (along t r a u) (λ b l e. along_one t r a u _ (fits b l).1 ∙ unseen_right t r a w u _ seen (fits b l).1 (absent b l e)) f
@@ -86,7 +72,7 @@ module _ (g : Grammar) (t : List ℕ) (r : ℕ) (u : List ℕ)
   met_is b l = along_one t r _ u _ (fits b l).1
 
   pub along_le : (b : ℕ) → b < pair_rule_count g → along t r (pair_rule g b).left u (2 ^ (pair_rule g b).right) ≤ 128
-  along_le b l = omega (arith, along_one t r (pair_rule g b).left u (pair_rule g b).right (fits b l).1, meetings_le t r (pair_rule g b).left u (pair_rule g b).right)
+  along_le b l = along_few t r _ u _ (fits b l).1
 
   -- nothing meets: no rule matches
   pub none_met : Apart t r u → (f : Fired) → f.word ≡ 0 → f.count ≡ 0 → Met g t r u f

@@ -1,27 +1,33 @@
 -- A walk over the places of one group: after m of them the word and the count are what those rules add, and after all of them what
 -- all pair rules with that left symbol add.
 -- Assumes nothing.
-use mathlib.Core.Path.{◌≡◌, sym, ap, ap₂, ◌∙◌}
-use mathlib.Core.List.{List}
-use Prim.Native.Nat.{ℕ, ◌+◌, ◌*◌, ◌≤◌, ◌<◌, max, min}
+use mathlib.Core.Path.{◌≡◌, sym, ap, ◌∙◌, subst}
+use Prim.Native.Nat.{ℕ, ◌+◌, ◌*◌, ◌^◌, ◌≤◌, ◌<◌, max, min}
 use native.Mathlib.Nat.{add-zero, max-zero}
 use native.Mathlib.Omega.{arith}
+use mathlib.Core.List.{List}
 use lib.Bits.{bit_or}
+use lib.ListN.{length, get_or}
 use Rattle.bits.specs.Sum.{sum}
 use Rattle.bits.specs.Bit.{bit}
-use Rattle.bits.proofs.Sums.{sum_more, sum_le, some_mul, some_left}
+use Rattle.bits.proofs.Sums.{sum_more, some_mul, some_left}
 use Rattle.bits.proofs.Bits.{bit_lt, bit_or_is}
-use Rattle.derivation.specs.Grammar.{Grammar, pair_rule_count}
+use Rattle.derivation.specs.Grammar.{Grammar, pair_rule_count, pair_rule}
+use Rattle.derivation.specs.Sound.{Sound}
+use Rattle.groups.proofs.Read.{parts_small}
+use Rattle.groups.proofs.Places.{ends_of, place_rule}
 use Rattle.kernel.specs.declared.Fired.{Fired}
 use Rattle.kernel.specs.Fire.{Noted}
-use Rattle.groups.specs.Group.{lefts, start_of, place_right, place_symbol, Grouped}
-use Rattle.kernel.specs.Apply.{matching, concluding, Applied}
+use Rattle.groups.specs.declared.Rule.{Rule}
+use Rattle.groups.specs.declared.Groups.{Groups}
+use Rattle.groups.specs.Group.{lefts, start_of, no_rule, rule_at, group_from, place_right, place_symbol, RulesOf, Grouped}
+use Rattle.kernel.specs.Apply.{matching, concluding, Applied, Callable, Tells}
 
 -- F of the rule at place `from + y` of the regrouped rules
-unfoldable pub rule_in : ℕ → List ℕ → (ℕ → ℕ → ℕ) → ℕ → ℕ
+unfoldable pub rule_in : ℕ → Groups → (ℕ → ℕ → ℕ) → ℕ → ℕ
 rule_in from t F y = F (place_right t (from + y)) (place_symbol t (from + y))
 
-module _ (m : ℕ → ℕ) (from : ℕ) (t : List ℕ) where
+module _ (m : ℕ → ℕ) (from : ℕ) (t : Groups) where
   pub record Walk (was now : Fired) (n : ℕ) : Type 0 where
     pub word : (A : ℕ) → bit now.word A ≡ max (bit was.word A) (min 1 (sum n (rule_in from t (concluding m A))))
     pub count : now.count ≡ was.count + sum n (rule_in from t (matching m))
@@ -30,21 +36,15 @@ module _ (m : ℕ → ℕ) (from : ℕ) (t : List ℕ) where
   unfolding sum
   walk_start f = record { word = λ A. sym (max-zero (bit f.word A)); count = sym (add-zero f.count) }
 
-  pub walk_le : (was f : Fired) (n c : ℕ) → ((y : ℕ) → y < n → m (place_right t (from + y)) ≤ c) → Walk was f n → f.count ≤ was.count + n * c
-  unfolding rule_in matching
-  walk_le was f n c few w = omega (arith, w.count, sum_le n c (rule_in from t (matching m)) few)
-
-  module _ (was f h : Fired) (n x matches : ℕ) (w : Walk was f n) (e : x ≡ from + n) (is : matches ≡ m (place_right t x))
-      (noted : Noted matches (place_symbol t x) f h) where
+  module _ (was f h : Fired) (n matches : ℕ) (rule : Rule) (w : Walk was f n) (e : rule ≡ rule_at t (from + n)) (is : matches ≡ m rule.right)
+      (noted : Noted matches rule.symbol f h) where
     matched : matches ≡ rule_in from t (matching m) n
     unfolding rule_in matching
-    matched = is ∙ ap (λ (y : ℕ). m (place_right t y)) e
+    matched = is ∙ ap (λ (r : Rule). m r.right) e
 
-    concluded : (A : ℕ) → min 1 matches * bit (place_symbol t x) A ≡ min 1 (rule_in from t (concluding m A) n)
+    concluded : (A : ℕ) → min 1 matches * bit rule.symbol A ≡ min 1 (rule_in from t (concluding m A) n)
     unfolding rule_in concluding
-    concluded A =
-        ap₂ (λ (y z : ℕ). min 1 y * z) (is ∙ ap (λ (y : ℕ). m (place_right t y)) e) (ap (λ (y : ℕ). bit (place_symbol t y) A) e)
-        ∙ some_scaled _ _ (bit_lt _ A)
+    concluded A = ap (λ (y : ℕ). min 1 y * bit rule.symbol A) is ∙ ap (λ (r : Rule). min 1 (m r.right) * bit r.symbol A) e ∙ some_scaled _ _ (bit_lt _ A)
       where
         some_scaled : (x y : ℕ) → y < 2 → min 1 x * y ≡ min 1 (x * y)
         some_scaled x y l = sym (some_mul x y ∙ ap (λ (z : ℕ). min 1 x * z) (omega arith))
@@ -58,7 +58,7 @@ module _ (m : ℕ → ℕ) (from : ℕ) (t : List ℕ) where
     }
 
 -- all of the group
-pub walk_done : (g : Grammar) (t : List ℕ) → Grouped g t → (m : ℕ → ℕ) (a : ℕ) → a < 64 → (was f : Fired)
+pub walk_done : (g : Grammar) (t : Groups) → Grouped g t → (m : ℕ → ℕ) (a : ℕ) → a < 64 → (was f : Fired)
     → Walk m (start_of g a) t was f (lefts g a (pair_rule_count g)) → Applied g m a was f
 unfolding rule_in
 walk_done g t p m a h was f w = record {
@@ -66,13 +66,24 @@ walk_done g t p m a h was f w = record {
   count = w.count ∙ ap (λ (s : ℕ). was.count + s) (p.sums (matching m) a h);
 }
 
--- ---- matches of one rule
-pub none_noted : (n s : ℕ) (f : Fired) → n ≡ 0 → Noted n s f f
-none_noted n s f z = record {
-  word = λ A. rw z (omega arith);
-  count = rw z (omega arith);
-}
+-- ---- the rules of a group
+module _ (g : Grammar) (t : Groups) (p : Grouped g t) (ok : Sound g) (a : ℕ) (small : a < 64) (rules : List Rule) (of : RulesOf t a rules) (y : ℕ) (in_group : y < length rules) where
+  -- a rule's right symbol, as the word of that one bit
+  pub one_symbol : (s : ℕ) × (s < 64) × (2 ^ s ≡ (get_or rules y no_rule).right)
+  one_symbol =
+      let n = ends_of g t a p ok.range.pairs small in
+      let b = place_rule g t p a (group_from t a + y) small (omega (arith, n.from)) (omega (arith, n.from, n.to, of.long)) in
+      ((pair_rule g b.0).right, (parts_small g ok b.0 b.1).1, b.2 ∙ ap (λ (r : Rule). r.right) (sym (of.at y in_group)))
 
+-- a call at it
+pub called_at : (pre : ℕ → Type 0) (post : ℕ → ℕ → Type 0) (R : ℕ) → (s : ℕ) × (s < 64) × (2 ^ s ≡ R) → Callable pre post
+    → pre R × ((y : ℕ) → post R y → y ≤ 128)
+called_at pre post R o h = subst (λ (x : ℕ). pre x × ((y : ℕ) → post x y → y ≤ 128)) o.2 (h o.0 o.1)
+
+pub told_at : (post : ℕ → ℕ → Type 0) (m : ℕ → ℕ) (R y : ℕ) → (s : ℕ) × (s < 64) × (2 ^ s ≡ R) → Tells post m → post R y → y ≡ m R
+told_at post m R y o h = subst (λ (x : ℕ). post x y → y ≡ m x) o.2 (h o.0 y o.1)
+
+-- ---- matches of one rule
 pub some_noted : (n s : ℕ) (f h : Fired) → 0 < n → h.word ≡ bit_or f.word s → h.count ≡ f.count + n → Noted n s f h
 some_noted n s f h p w c =
     let e : min 1 n ≡ 1 = omega arith in

@@ -74,9 +74,6 @@ leaf_read g ok r s h i =
     (e, omega (arith, leaf_fits_is g ok r h))
 
 -- ---- the events that there are rules for
-pub heard_start : (g : Grammar) (t : List ℕ) → Heard g t 0
-heard_start g t = record { at = λ r l. absurd (omega arith) }
-
 pub place_lt : (e : ℕ) → e % 1024 / 64 < 16
 place_lt e = (div-lt_iff_lt-mul (zero-lt-suc 63)).1 (mod-lt e (zero-lt-suc 1023))
 

@@ -1,7 +1,6 @@
 -- The unions of a group decide where all or none of its rules match: every right symbol of the group stands in its first union.
 -- Assumes nothing.
 use mathlib.Core.Path.{◌≡◌, sym, ap, ap₂, ◌∙◌}
-use mathlib.Core.List.{List}
 use Prim.Native.Nat.{ℕ, ◌+◌, ◌-◌, ◌*◌, ◌^◌, ◌≤◌, ◌<◌, max, min}
 use native.Mathlib.Nat.{add-zero, max-zero, mul-one, mul-zero, zero-mul}
 use native.Mathlib.Decide.{ℕ_discrete}
@@ -17,6 +16,7 @@ use Rattle.bits.proofs.Bits.{bit_lt, bit_and_is, bit_or_is, bit_one, bit_of_zero
 use Rattle.bits.proofs.Words.{meet_one}
 use Rattle.derivation.specs.Grammar.{Grammar, pair_rule_count, pair_rule}
 use Rattle.kernel.specs.declared.Fired.{Fired}
+use Rattle.groups.specs.declared.Groups.{Groups}
 use Rattle.groups.specs.Group.{lefts, sum_by_left, group_from, group_to, group_needs, group_gives, right_is, symbol_is, Grouped}
 use Rattle.kernel.specs.Apply.{matching, concluding, over, Applied}
 
@@ -51,7 +51,7 @@ applied_unmet g a m unmet f = record {
   count = sym (add-zero f.count) ∙ ap (λ (s : ℕ). f.count + s) (sym (by_left_cong g a _ (λ R S. 0) unmet ∙ by_left_none g a (pair_rule_count g)));
 }
 
-module _ (g : Grammar) (t : List ℕ) (p : Grouped g t) (v a : ℕ) (small : a < 64) where
+module _ (g : Grammar) (t : Groups) (p : Grouped g t) (v a : ℕ) (small : a < 64) where
   -- the right symbol of a rule of the group stands in its union
   right_stands : (b : ℕ) → b < pair_rule_count g → (pair_rule g b).left ≡ a → bit (group_needs t a) (pair_rule g b).right ≡ 1
   unfolding sum_by_left right_is

@@ -1,6 +1,6 @@
 -- Inside: what the rules of one left symbol add to a cell, by the groups of the regrouped rules.
 -- Assumes nothing.
-use Rattle.std.specs.Prelude.{◌≡◌, List, ℕ, ◌+◌, ◌*◌, min, max, length, get_or}
+use Rattle.std.specs.Prelude.{◌≡◌, List, ℕ, ◌+◌, ◌*◌, ◌^◌, ◌≤◌, ◌<◌, min, max, get_or}
 use Rattle.bits.specs.Sum.{sum}
 use Rattle.bits.specs.Bit.{bit}
 use Rattle.bits.specs.Word.{Has, meet}
@@ -29,14 +29,20 @@ over v R = meet v R
 unfoldable pub along : List ℕ → (r a : ℕ) → List ℕ → ℕ → ℕ
 along t r a u R = sum 64 (λ c. meetings t r a u c * bit R c)
 
--- ---- what the rules of the left symbol a add to an empty cell beside the right word v stands in t: the word in word 2 a, the matches in word
--- 2 a + 1; and so of each symbol of u
-abbrev pub ready_words : ℕ
-ready_words = 128
+-- at the word of one symbol a call may be made, and answers at most 128
+abbrev pub Callable : (ℕ → Type 0) → (ℕ → ℕ → Type 0) → Type 0
+Callable pre post = (s : ℕ) → s < 64 → pre (2 ^ s) × ((y : ℕ) → post (2 ^ s) y → y ≤ 128)
 
-pub record ReadyAt (g : Grammar) (v a : ℕ) (t : List ℕ) : Type 0 where
-  pub made : Applied g (over v) a (record { word = 0; count = 0 }) (record { word = get_or t (2 * a) 0; count = get_or t (2 * a + 1) 0 })
+-- and there answers what m tells
+abbrev pub Tells : (ℕ → ℕ → Type 0) → (ℕ → ℕ) → Type 0
+Tells post m = (s y : ℕ) → s < 64 → post (2 ^ s) y → y ≡ m (2 ^ s)
 
-pub record Ready (g : Grammar) (v u : ℕ) (t : List ℕ) : Type 0 where
-  pub long : length t ≡ ready_words
+-- ---- what the rules of the left symbol a add to an empty cell beside the right word v stands in t at a; and so of each symbol of u
+abbrev pub nothing : Fired
+nothing = record { word = 0; count = 0 }
+
+pub record ReadyAt (g : Grammar) (v a : ℕ) (t : List Fired) : Type 0 where
+  pub made : Applied g (over v) a nothing (get_or t a nothing)
+
+pub record Ready (g : Grammar) (v u : ℕ) (t : List Fired) : Type 0 where
   pub at : (a : ℕ) → Has u a → ReadyAt g v a t

@@ -11,6 +11,21 @@ pub const HEADER_BYTES: usize = 10;
 
 pub const FLAG_BYTES: usize = 1;
 
+// The version with the flag.
+const FLAG_VERSION: usize = 2;
+
+// Where the header has its numbers.
+const VERSION_AT: usize = 3;
+
+const SYMBOLS_AT: usize = 5;
+
+const LEAVES_AT: usize = 6;
+
+const PAIRS_AT: usize = 8;
+
+// The bytes of a rule, of either kind.
+pub const RULE_BYTES: usize = 3;
+
 // ---- numbers
 
 fn byte_at(image: &[u8], at: usize) -> usize
@@ -25,9 +40,7 @@ fn word_at(image: &[u8], at: usize) -> usize
     requires { at + 1 < length image.now }
     ensures { (result ≡ word_in image.now at) × (result < 65536) }
 {
-    let low = byte_at(image, at);
-    let high = byte_at(image, at + 1);
-    low + 256 * high
+    u16::from_le_bytes([image[at], image[at + 1]]) as usize
 }
 
 // ---- versions
@@ -36,7 +49,7 @@ pub fn version(image: &[u8]) -> usize
     requires { header_bytes ≤ length image.now }
     ensures { result ≡ version_in image.now }
 {
-    word_at(image, 3)
+    word_at(image, VERSION_AT)
 }
 
 // Where the rules begin.
@@ -44,10 +57,11 @@ pub fn rules_from(image: &[u8]) -> usize
     requires { header_bytes ≤ length image.now }
     ensures { (result ≡ first_rule_at image.now) × (result < 16) }
 {
-    if version(image) == 2 {
-        return HEADER_BYTES + FLAG_BYTES;
+    if version(image) == FLAG_VERSION {
+        HEADER_BYTES + FLAG_BYTES
+    } else {
+        HEADER_BYTES
     }
-    HEADER_BYTES
 }
 
 // The flag, which admits the empty record where it is 1. There is none but in version 2.
@@ -55,13 +69,11 @@ pub fn quiet_flag(image: &[u8]) -> usize
     requires { header_bytes ≤ length image.now }
     ensures { (result ≡ (decode image.now).quiet) × (result < 256) }
 {
-    if version(image) != 2 {
-        return 0;
+    if version(image) == FLAG_VERSION && HEADER_BYTES < image.len() {
+        byte_at(image, HEADER_BYTES)
+    } else {
+        0
     }
-    if image.len() == HEADER_BYTES {
-        return 0;
-    }
-    byte_at(image, HEADER_BYTES)
 }
 
 // ---- counts
@@ -70,30 +82,28 @@ pub fn symbol_count(image: &[u8]) -> usize
     requires { header_bytes ≤ length image.now }
     ensures { (result ≡ (decode image.now).symbols) × (result < 256) }
 {
-    byte_at(image, 5)
+    byte_at(image, SYMBOLS_AT)
 }
 
 pub fn leaf_count(image: &[u8]) -> usize
     requires { header_bytes ≤ length image.now }
     ensures { (result ≡ event_rule_count (decode image.now)) × (result < 65536) }
 {
-    word_at(image, 6)
+    word_at(image, LEAVES_AT)
 }
 
 pub fn pair_count(image: &[u8]) -> usize
     requires { header_bytes ≤ length image.now }
     ensures { (result ≡ pair_rule_count (decode image.now)) × (result < 65536) }
 {
-    word_at(image, 8)
+    word_at(image, PAIRS_AT)
 }
 
 pub fn rule_count(image: &[u8]) -> usize
     requires { header_bytes ≤ length image.now }
     ensures { (result ≡ rule_total (decode image.now)) × (result < 131072) }
 {
-    let leaves = leaf_count(image);
-    let pairs = pair_count(image);
-    leaves + pairs
+    leaf_count(image) + pair_count(image)
 }
 
 // ---- rules by number: event rules 0 to L−1, pair rules L to L+B−1
@@ -103,8 +113,7 @@ fn rule_at(image: &[u8], r: usize) -> usize
     requires { HasRule image.now r }
     ensures { (result ≡ rule_in image.now r) × (result + 2 < length image.now) }
 {
-    let from = rules_from(image);
-    from + 3 * r
+    rules_from(image) + RULE_BYTES * r
 }
 
 // Byte k of rule r.
@@ -112,8 +121,7 @@ fn rule_byte(image: &[u8], r: usize, k: usize) -> usize
     requires { HasRule image.now r × (k < 3) }
     ensures { (result ≡ byte_in image.now (rule_in image.now r + k)) × (result < 256) }
 {
-    let at = rule_at(image, r);
-    byte_at(image, at + k)
+    byte_at(image, rule_at(image, r) + k)
 }
 
 // The symbol of rule r, of either kind.
@@ -129,8 +137,7 @@ pub fn event_of(image: &[u8], r: usize) -> usize
     requires { HasLeaf image.now r }
     ensures { (result ≡ (event_rule (decode image.now) r).event) × (result < 65536) }
 {
-    let at = rule_at(image, r);
-    word_at(image, at + 1)
+    word_at(image, rule_at(image, r) + 1)
 }
 
 // The left symbol of the pair rule with number r.

@@ -19,11 +19,11 @@ use Rattle.image.specs.Refusal.{First}
 use Rattle.image.specs.Image.{most_events}
 use Rattle.image.specs.Accepted.{Accepted}
 use Rattle.image.proofs.Refusals.{past_zero, holding_passed}
-use Rattle.chart.specs.declared.Judged.{Judged}
+use Rattle.chart.specs.Answer.{Judged}
 use Rattle.chart.specs.Judge.{Answered}
 use Rattle.table.specs.Table.{slot_of, table_words, Filled}
 use Rattle.table.proofs.Slots.{words_on, slot_fits}
-use Rattle.readings.specs.declared.Paged.{Paged}
+use Rattle.readings.specs.Answer.{Paged}
 use Rattle.readings.specs.Count.{how_many}
 use Rattle.readings.specs.Reading.{lent_rows, number_rows, Fills}
 use Rattle.readings.specs.Page.{PageIs}
@@ -39,10 +39,6 @@ cells_most n h = omega (arith, words_on 1 n most_events h, most)
 
 pub words_most : (N n : ℕ) → N ≤ 64 → n ≤ most_events → table_words N n ≤ 297984
 words_most N n s h = mul-le-mul s (cells_most n h)
-
--- ---- as many words as are needed
-pub put_as : (size m n : ℕ) (ws before after : List ℕ) → m ≡ n → PutWords size m ws before after → PutWords size n ws before after
-put_as size m n ws before after e = subst (λ (x : ℕ). PutWords size x ws before after) e
 
 -- ---- a chart
 module _ (g : Grammar) (w own own' before after : List ℕ) (r : Judged) (fits : cells (length w) ≤ length own) (a : Answered g w own r own')

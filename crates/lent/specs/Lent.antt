@@ -8,17 +8,16 @@ use Rattle.derivation.specs.Tree.{script_word_count}
 use Rattle.derivation.specs.Chart.{cells}
 use Rattle.layout.specs.Layout.{decode}
 use Rattle.image.specs.Image.{most_events}
-use Rattle.image.specs.Accepted.{Accepted}
-use Rattle.chart.specs.declared.Judged.{Judged}
+use Rattle.chart.specs.Answer.{Judged}
 use Rattle.chart.specs.Judge.{Answered}
 use Rattle.table.specs.Table.{held, table_words}
+use Rattle.readings.specs.Answer.{paged}
 use Rattle.readings.specs.Count.{how_many}
 use Rattle.readings.specs.Page.{PageIs}
 use Rattle.lent.specs.declared.tables.Taken.{Taken}
 
 -- a chart is lent
-pub record LendsChart (b w chart : List ℕ) : Type 0 where
-  pub image : Accepted b
+pub record LendsChart (w chart : List ℕ) : Type 0 where
   pub few : length w ≤ most_events
   pub fits : 8 * cells (length w) ≤ length chart
 
@@ -29,13 +28,12 @@ pub record JudgedIn (g : Grammar) (w before : List ℕ) (r : Judged) (after : Li
   pub framed : Framed before after 0 (8 * cells (length w))
 
 -- a table is lent, and words for m scripts
-pub record LendsTable (b w : List ℕ) (m : ℕ) (table room : List ℕ) : Type 0 where
-  pub image : Accepted b
+pub record LendsTable (g : Grammar) (w : List ℕ) (m : ℕ) (table room : List ℕ) : Type 0 where
   pub few : length w ≤ most_events
-  pub fits : 4 * table_words (decode b).symbols (length w) ≤ length table
+  pub fits : 4 * table_words g.symbols (length w) ≤ length table
   pub space : m * script_word_count (length w) ≤ length room
 
 pub record TakenIs (b w : List ℕ) (k m : ℕ) (table room : List ℕ) (r : Taken) (table' room' : List ℕ) : Type 0 where
-  pub page : PageIs b w k m (words 4 table) room r.paged (words 4 table') room'
+  pub page : PageIs b w k m (words 4 table) room (paged r.paged) (words 4 table') room'
   pub framed : Framed table table' 0 (4 * table_words (decode b).symbols (length w))
   pub total : r.total ≡ held (how_many (decode b) w)

@@ -27,7 +27,7 @@ use Rattle.table.specs.Table.{limit, held, table_words}
 use Rattle.table.specs.Fill.{CountsIn}
 use Rattle.table.proofs.Tables.{counts_in}
 use Rattle.text.specs.Text.{line}
-use Rattle.readings.specs.declared.Paged.{Paged}
+use Rattle.readings.specs.Answer.{Paged}
 use Rattle.readings.specs.Count.{how_many, table_rows, count_rows}
 use Rattle.readings.specs.Reading.{room_rows, number_rows, lent_rows}
 use Rattle.readings.specs.Page.{PageIs}

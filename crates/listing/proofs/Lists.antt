@@ -1,7 +1,6 @@
--- What is written: the numbers of a refusal, the words behind a total, the lines of the scripts in a room one more at a time, of two files or of none; and
--- one outcome only.
+-- What is written: the lines of the scripts in a room one more at a time, of two files or of none; and one outcome only.
 -- Assumes nothing.
-use mathlib.Core.Path.{◌≡◌, refl, sym, ap, ap₂, ◌∙◌}
+use mathlib.Core.Path.{◌≡◌, refl, sym, ap, ap₂, subst, ◌∙◌}
 use mathlib.Core.Logic.{⊎_elim}
 use mathlib.Core.Bool.{Bool, true, false, ◌&&◌, true≢false}
 use mathlib.Core.List.{List, [], ◌∷◌, ◌++◌, append_assoc, append-nil}
@@ -10,35 +9,16 @@ use native.Mathlib.Nat.{zero-mul, suc-mul, mul-le-mul_right}
 use native.Mathlib.Numerals.{add-one}
 use native.Mathlib.Decide.{ℕ_discrete}
 use native.Mathlib.Omega.{arith}
-use borrow.Author.Tests.{eq-eqb, ne_eqb}
 use lib.ListN.{length, get_or, take, drop, take-append-drop}
 use lib.Seq.{take-suc, length-take-le}
 use Rattle.bits.proofs.Truths.{lt_or_ge}
 use Rattle.derivation.specs.Derivations.{join}
 use Rattle.image.proofs.Refusals.{first_only}
 use Rattle.image.proofs.Named.{names_same}
-use Rattle.table.specs.Table.{limit}
 use Rattle.text.specs.Text.{line}
 use Rattle.text.specs.Put.{Put}
 use Rattle.text.proofs.Puts.{put_none, put_more, put_as}
-use Rattle.listing.specs.Listing.{most_bytes, line_bytes, refused_words, refused_line, or_more, lines, ListingIs, no_file_line, OutputIs, Written}
-
--- ---- " or more"
-pub or_more_no : (t : ℕ) → (t ≡ limit → ⊥) → or_more t ≡ []
-or_more_no t n = rw (ne_eqb t limit n)
-
-pub or_more_yes : (t : ℕ) → t ≡ limit → or_more t ≡ 32 ∷ 111 ∷ 114 ∷ 32 ∷ 109 ∷ 111 ∷ 114 ∷ 101 ∷ []
-or_more_yes t e = rw (eq-eqb t limit e)
-
--- ---- the numbers that tell a refusal
-pub told_six : (n r : ℕ) → n ≡ 6 → n ∷ r ∷ [] ≡ refused_words n r
-told_six n r e = rw (eq-eqb n 6 e)
-
-pub told_seven : (n r : ℕ) → (n ≡ 6 → ⊥) → n ≡ 7 → n ∷ r ∷ [] ≡ refused_words n r
-told_seven n r a e = rw (ne_eqb n 6 a, eq-eqb n 7 e)
-
-pub told_alone : (n r : ℕ) → (n ≡ 6 → ⊥) → (n ≡ 7 → ⊥) → n ∷ [] ≡ refused_words n r
-told_alone n r a b = rw (ne_eqb n 6 a, ne_eqb n 7 b)
+use Rattle.listing.specs.Listing.{most_bytes, line_bytes, refused_line, lines, ListingIs, OutputIs, Written}
 
 -- ---- lines
 lines_more : (ss : List (List ℕ)) (s : List ℕ) → lines (ss ++ (s ∷ [])) ≡ lines ss ++ line s
@@ -98,13 +78,15 @@ module _ (room : List ℕ) (n : ℕ) where
         same : line (take (from + n - from) (drop from room)) ≡ line (take n (drop (x * n) room))
         same = rw (size, v.place)
 
--- ---- of two files, or of none
-module _ (g h : Bool) (b e out : List ℕ) where
-  pub both_there : g && h ≡ true → ListingIs b e out → OutputIs g b h e out
-  both_there t p = record { no_file = λ f. absurd (true≢false (sym t ∙ f)); listed = λ _. p }
+-- ---- of two files
+-- of a file that could not be read the bytes do not count, so that they may be any
+pub output_unread : (g h : Bool) (b c e f o : List ℕ) → (g ≡ true → b ≡ c) → (h ≡ true → e ≡ f) → OutputIs g b h e o → OutputIs g c h f o
+output_unread true true b c e f o x y p = record { no_file = λ z. absurd (true≢false z); listed = λ t. subst (λ (u : List ℕ). ListingIs u f o) (x refl) (subst (λ (v : List ℕ). ListingIs b v o) (y refl) (p.listed t)) }
+output_unread true false b c e f o x y p = record { no_file = p.no_file; listed = λ t. absurd (true≢false (sym t)) }
+output_unread false h b c e f o x y p = record { no_file = p.no_file; listed = λ t. absurd (true≢false (sym t)) }
 
-  pub one_not_there : g && h ≡ false → out ≡ no_file_line → OutputIs g b h e out
-  one_not_there f p = record { no_file = λ _. p; listed = λ t. absurd (true≢false (sym t ∙ f)) }
+pub written_unread : (g h : Bool) (b c e f before after : List ℕ) (r : ℕ) → (g ≡ true → b ≡ c) → (h ≡ true → e ≡ f) → Written g b h e before r after → Written g c h f before r after
+written_unread g h b c e f before after r x y p = record { short = p.short; enough = λ l. let a = p.enough l in (a.0, output_unread g h b c e f _ x y a.1); rest = p.rest }
 
 -- ---- one outcome only
 pub listing_only : (b e o u : List ℕ) → ListingIs b e o → ListingIs b e u → o ≡ u

@@ -1,6 +1,7 @@
 -- Promised: what the program writes for the bytes b of a grammar file and the bytes e of an event file, whatever they are, and where one cannot be read.
 -- Assumes nothing.
-use Rattle.std.specs.Prelude.{◌≡◌, ◌≢◌, Bool, true, false, cond, ◌&&◌, List, [], ◌∷◌, ◌++◌, ℕ, ◌+◌, ◌*◌, ◌%◌, ◌≤◌, ◌<◌, eqb, length, take, drop}
+use Rattle.std.specs.Prelude.{◌≡◌, ◌≢◌, Bool, true, false, cond, ◌&&◌, List, [], ◌∷◌, ◌++◌, ℕ, ◌+◌, ◌*◌, ◌%◌, ◌≤◌, ◌<◌, eqb, length, take, drop, Option, option_copied, unwrap_or}
+use Rattle.std.specs.Borrow.{Bor}
 use Rattle.derivation.specs.Grammar.{Grammar}
 use Rattle.derivation.specs.Tree.{script_word_count}
 use Rattle.derivation.specs.Derivations.{scripts}
@@ -91,3 +92,7 @@ pub record Written (grammarRead : Bool) (b : List ℕ) (eventsRead : Bool) (e be
   pub short : length before < most_bytes → (r ≡ 0) × (after ≡ before)
   pub enough : most_bytes ≤ length before → (r ≤ length after) × OutputIs grammarRead b eventsRead e (take r after)
   pub rest : drop r after ≡ drop r before
+
+-- the bytes of a file as far as it was read, where it is lent; none where it could not be opened and read
+abbrev pub bytes_shown : Option (Bor (List ℕ)) → List ℕ
+bytes_shown file = unwrap_or (option_copied file) []

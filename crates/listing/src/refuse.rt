@@ -1,44 +1,21 @@
 // The refusals of the program, in its order.
+ghost use Rattle.std.specs.Prelude.{◌≡◌, IfOk};
 ghost use Rattle.layout.specs.Layout.{decode};
 ghost use Rattle.image.specs.Refuse.{RefusalIs};
 ghost use Rattle.listing.specs.Listing.{program_rows};
 
-use image::Refusal;
+use image::{Grammar, Refusal};
 
-// The refusals of the image, and then 8, 14 and 10, or 0.
-pub fn program_refusal(image: &[u8], events: &[u8]) -> Refusal
-    ensures { RefusalIs (program_rows image.now events.now) (decode image.now) result }
+// The refusals of the image and of the record's bytes, and then 10.
+pub fn test_program<'a>(image: &'a [u8], events: &[u8]) -> Result<Grammar<'a>, Refusal>
+    ensures tested { RefusalIs (program_rows image.now events.now) (decode image.now) result }
+    ensures bytes { IfOk result (λ g. g.bytes.now ≡ image.now) }
 {
-    let tested = image::test_image(image);
-    let refusal = tested.refusal;
-    if refusal != 0 {
-        return Refusal {
-            refusal,
-            rule: tested.rule,
-        };
-    }
     let size = events.len();
-    if 2 * image::MOST_EVENTS < size {
-        return Refusal {
-            refusal: 8,
-            rule: 0,
-        };
-    }
-    if size % 2 != 0 {
-        return Refusal {
-            refusal: 14,
-            rule: 0,
-        };
-    }
-    let need = table::words_needed(tested.symbols, size / 2);
+    let grammar = image::test_record_bytes(image, size)?;
+    let need = table::words_needed(grammar.symbol_count(), size / 2);
     if super::TABLE_WORDS < need {
-        return Refusal {
-            refusal: 10,
-            rule: 0,
-        };
+        return Err(Refusal::ShortTable);
     }
-    Refusal {
-        refusal: 0,
-        rule: 0,
-    }
+    Ok(grammar)
 }

@@ -6,14 +6,18 @@ use native.Mathlib.Omega.{arith}
 use mathlib.Core.Path.{◌≡◌, sym, ◌∙◌, subst, subst⁻¹}
 use mathlib.Core.Logic.{⊎_elim}
 use borrow.Author.Count.{below_none, below_more}
-use Rattle.bits.specs.Truth.{Every}
-use Rattle.bits.specs.Bit.{bit}
+use mathlib.Core.Bool.{Bool, true, false}
+use lib.ListN.{length}
+use Rattle.std.specs.Bool.{MatchBool}
+use Rattle.std.specs.List.{range_with_len, AllWithin, HoldsAt}
+use Rattle.std.proofs.lemmas.List.FromFn.{length-range_with_len, get_or-range_with_len}
+use Rattle.bits.specs.Truth.{Every, Decides}
 use Rattle.bits.specs.Word.{Has, Within, put}
-use Rattle.bits.proofs.Bits.{bit_lt}
 use Rattle.bits.proofs.Sets.{none_in, put_has, put_keeps, put_only, put_grows}
 use Rattle.derivation.specs.Grammar.{Grammar, event_rule_count, pair_rule_count, rule_total, event_rule, pair_rule, rule_symbol}
 use Rattle.derivation.specs.Live.{DerivesSome, Reached, start, left, right}
-use Rattle.derivation.proofs.Sound.{leaf_symbol, pair_symbol}
+use Rattle.derivation.specs.Sound.{Sound}
+use Rattle.derivation.proofs.Sound.{leaf_symbol, pair_symbol, symbol_fits, pair_fits}
 use Rattle.derivation.proofs.Live.{Upward, Downward, derives_upward, derives_least, reached_least}
 use Rattle.live.specs.declared.Sought.{Sought}
 use Rattle.live.specs.declared.Sought.TheVariants.{Deriving, Reachable}
@@ -58,12 +62,18 @@ module _ (sought : Sought) (g : Grammar) where
   round_more {s} {t} r p q =
       grown_both p q (λ e a b. below_more (Stays sought g s) r a (subst (λ (x : ℕ). Stays sought g x r) e b))
 
--- ---- one pair rule, by what the code reads of it
-pub lacking : (s : ℕ) {x y : ℕ} → x ≡ y → bit s x ≡ 0 → Has s y → ⊥
-lacking s {x} e z h = omega (arith, subst (Has s) (sym e) h)
+-- ---- one rule, by what the code reads of it
+-- a symbol of a sound grammar has a bit in a set
+module _ (g : Grammar) (ok : Sound g) (r x : ℕ) (m : r < rule_total g) where
+  pub symbol_small : x ≡ rule_symbol g r → x < 64
+  symbol_small e = omega (arith, symbol_fits g ok r m, ok.range.symbols)
 
-pub having : (s : ℕ) {x y : ℕ} → x ≡ y → (bit s x ≡ 0 → ⊥) → Has s y
-having s {x} e z = subst (Has s) e (omega (arith, bit_lt s x))
+  module _ (l : event_rule_count g ≤ r) where
+    pub left_small : x ≡ (pair_rule g (r - event_rule_count g)).left → x < 64
+    left_small e = omega (arith, (pair_fits g ok r l m).left, ok.range.symbols)
+
+    pub right_small : x ≡ (pair_rule g (r - event_rule_count g)).right → x < 64
+    right_small e = omega (arith, (pair_fits g ok r l m).right, ok.range.symbols)
 
 module _ (g : Grammar) (r : ℕ) (l : event_rule_count g ≤ r) (m : r < rule_total g) (s : ℕ) where
   abbrev b : ℕ
@@ -132,3 +142,12 @@ module _ (g : Grammar) where
   pub exactly : (sought : Sought) (s : ℕ) → Starts sought g s → Every (rule_total g) (Stays sought g s) → Exactly (Meets sought g) s
   exactly Deriving s p f = record { only = p.only; all = derives_least g (Has s) (upward s p.covers f) }
   exactly Reachable s p f = record { only = p.only; all = reached_least g (Has s) (downward s p.covers f) }
+
+-- what `all` answers of the numbers below n
+pub all_below : (n : ℕ) (P : ℕ → Type 0) (ok : Bool)
+    → MatchBool ok (AllWithin P (range_with_len 0 n) 0 (length (range_with_len 0 n)))
+    ((k : ℕ) × (k < length (range_with_len 0 n)) × HoldsAt (λ a. P a → ⊥) (range_with_len 0 n) k) → Decides ok (Every n P)
+all_below n P true h = λ a l. subst P (get_or-range_with_len 0 n a 0 l ∙ omega arith) (h a 0 (omega arith) (omega (arith, length-range_with_len 0 n)))
+all_below n P false h = λ e.
+    let l : h.0 < n = omega (arith, length-range_with_len 0 n, h.1) in
+    h.2 0 (subst⁻¹ P (get_or-range_with_len 0 n h.0 0 l ∙ omega arith) (e h.0 l))

@@ -28,15 +28,12 @@ fn with_symbol(image: &[u8], r: usize, set: u64) -> u64
     ensures { Grown Deriving (decode image.now) set (Stays Deriving (decode image.now) set r) result }
 {
     let left = layout::left_of(image, r);
-    if bits::bit_of(set, left) == 0 {
-        return set;
-    }
     let right = layout::right_of(image, r);
-    if bits::bit_of(set, right) == 0 {
-        return set;
+    if bits::bit_of(set, left) == 1 && bits::bit_of(set, right) == 1 {
+        bits::put_bit(set, layout::symbol_of(image, r), 1)
+    } else {
+        set
     }
-    let symbol = layout::symbol_of(image, r);
-    bits::put_bit(set, symbol, 1)
 }
 
 // The set with both parts of rule r, where its symbol is in it.
@@ -44,14 +41,14 @@ fn with_parts(image: &[u8], r: usize, set: u64) -> u64
     requires { HasPair image.now r × Sound (decode image.now) }
     ensures { Grown Reachable (decode image.now) set (Stays Reachable (decode image.now) set r) result }
 {
-    let symbol = layout::symbol_of(image, r);
-    if bits::bit_of(set, symbol) == 0 {
-        return set;
+    if bits::bit_of(set, layout::symbol_of(image, r)) == 1 {
+        let left = layout::left_of(image, r);
+        let right = layout::right_of(image, r);
+        let more = bits::put_bit(set, left, 1);
+        bits::put_bit(more, right, 1)
+    } else {
+        set
     }
-    let left = layout::left_of(image, r);
-    let right = layout::right_of(image, r);
-    let more = bits::put_bit(set, left, 1);
-    bits::put_bit(more, right, 1)
 }
 
 // The same for either search.
@@ -72,12 +69,9 @@ fn with_rules(image: &[u8], set: u64, sought: Sought) -> u64
     requires { Whole image.now × Sound (decode image.now) }
     ensures { Grown sought (decode image.now) set (Every (rule_total (decode image.now)) (Stays sought (decode image.now) set)) result }
 {
-    let rules = layout::rule_count(image);
     let mut more = set;
-    let mut r = layout::leaf_count(image);
-    while r < rules {
+    for r in layout::leaf_count(image)..layout::rule_count(image) {
         more = with_rule(image, r, more, sought);
-        r += 1;
     }
     more
 }
@@ -87,13 +81,9 @@ fn event_symbols(image: &[u8]) -> u64
     requires { Whole image.now × Sound (decode image.now) }
     ensures { Starts Deriving (decode image.now) result }
 {
-    let leaves = layout::leaf_count(image);
-    let mut set: u64 = 0;
-    let mut r = 0;
-    while r < leaves {
-        let symbol = layout::symbol_of(image, r);
-        set = bits::put_bit(set, symbol, 1);
-        r += 1;
+    let mut set = 0;
+    for r in 0..layout::leaf_count(image) {
+        set = bits::put_bit(set, layout::symbol_of(image, r), 1);
     }
     set
 }
@@ -120,7 +110,7 @@ fn search(image: &[u8], sought: Sought) -> u64
     loop {
         let more = with_rules(image, set, sought);
         if more == set {
-            return more;
+            return set;
         }
         set = more;
     }
@@ -131,14 +121,7 @@ fn has_all(set: u64, n: usize) -> bool
     requires { n ≤ 64 }
     ensures { Decides result (Every n (Has set)) }
 {
-    let mut a = 0;
-    while a < n {
-        if bits::bit_of(set, a) == 0 {
-            return false;
-        }
-        a += 1;
-    }
-    true
+    (0..n).all(|a| bits::bit_of(set, a) == 1)
 }
 
 // Whether every symbol is among those that are sought.
@@ -146,9 +129,7 @@ fn all_meet(image: &[u8], sought: Sought) -> bool
     requires { Whole image.now × Sound (decode image.now) }
     ensures { Decides result (Every (decode image.now).symbols (Meets sought (decode image.now))) }
 {
-    let set = search(image, sought);
-    let n = layout::symbol_count(image);
-    has_all(set, n)
+    has_all(search(image, sought), layout::symbol_count(image))
 }
 
 // Whether no symbol is dead.
@@ -156,9 +137,5 @@ pub fn all_live(image: &[u8]) -> bool
     requires { Whole image.now × Sound (decode image.now) }
     ensures { Decides result (Every (decode image.now).symbols (Live (decode image.now))) }
 {
-    let deriving = all_meet(image, Sought::Deriving);
-    if !deriving {
-        return false;
-    }
-    all_meet(image, Sought::Reachable)
+    all_meet(image, Sought::Deriving) && all_meet(image, Sought::Reachable)
 }

@@ -306,9 +306,6 @@ module _ (t : List ℕ) (r : ℕ) (u : List ℕ) where
       ap₂ ◌+◌ (sum_cong 64 _ _ (λ x l. f x l ∙ ap (λ (y : ℕ). stands t r a y * stands u 0 c y) (zero-add x))) (sum_cong 64 _ _ g)
       ∙ sym (sum_split 64 64 (λ j. stands t r a j * stands u 0 c j))
 
-  pub low_meeting_is : (a c low : ℕ) → CommonIs t r a u c 0 low → CommonIs t r a u c 1 0 → sum 64 (bit low) ≡ meetings t r a u c
-  low_meeting_is a c low f g = sym (add-zero _) ∙ ap (λ (y : ℕ). sum 64 (bit low) + y) (sym (sum_zero 64 _ (λ x l. bit_of_zero x))) ∙ meeting_is a c low 0 f g
-
 -- all the symbols of a block
 pub seen_is : (t : List ℕ) (r : ℕ) → Told t → SeenIn t r (get_or t (131 * r + 130) 0)
 seen_is t r told a j l h = elim (ℕ_discrete (stands t r a j) 1) [

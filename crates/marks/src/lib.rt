@@ -6,19 +6,23 @@ ghost use Rattle.std.specs.Int.Bits.{bit_or};
 ghost use Rattle.marks.specs.Mark.{meetings, Apart, SeenIn, CommonIs, Told, Entered, Marked};
 ghost use Rattle.marks.specs.Shown.{InUse, CellMarked};
 
-// The words of a block, and those of the blocks of 96 starts.
+// The starts that have blocks, the words of a block, and those of all blocks.
+const STARTS: usize = 96;
+
 pub const BLOCK: usize = 131;
 
-pub const LEFTS: usize = 96 * BLOCK;
+pub const LEFTS: usize = STARTS * BLOCK;
+
+// In a block, past the words of the 64 symbols: the two of all splits at which any symbol stands, and that of all symbols.
+const SOME: usize = 128;
+
+const SEEN: usize = 130;
 
 // Whether marks save more than it costs to make them: the record is neither short nor longer than they reach.
 pub fn pay(n: usize) -> bool
     ensures { result ≡ true → n ≤ 96 }
 {
-    if n < 16 {
-        return false;
-    }
-    n <= 96
+    (16..=STARTS).contains(&n)
 }
 
 // The bits of more in word `at` too.
@@ -26,8 +30,7 @@ fn join(marks: &mut [u64], at: usize, more: u64)
     requires { at < length marks.old }
     ensures { marks.new ≡ set marks.old at (bit_or (get_or marks.old at 0) more) }
 {
-    let all = marks[at] | more;
-    marks[at] = all;
+    marks[at] |= more;
 }
 
 // Each symbol of a word at split j.
@@ -35,13 +38,10 @@ fn mark_symbols(marks: &mut [u64], r: usize, j: usize, word: u64)
     requires { (r < 96) × (131 * r + 131 ≤ length marks.old) × (j < 128) }
     ensures { Entered marks.old marks.new r j word }
 {
-    let from = 131 * r + j / 64;
+    let from = BLOCK * r + j / 64;
     let split = bits::put_bit(0, j % 64, 1);
-    let mut rest = word;
-    while rest != 0 {
-        let a = bits::first_bit(rest);
+    for a in bits::members(word) {
         join(marks, from + 2 * a, split);
-        rest = bits::without(rest, a);
     }
 }
 
@@ -54,10 +54,10 @@ fn mark(marks: &mut [u64], r: usize, j: usize, word: u64)
         return;
     }
     mark_symbols(marks, r, j, word);
-    let base = 131 * r;
+    let base = BLOCK * r;
     let split = bits::put_bit(0, j % 64, 1);
-    join(marks, base + 128 + j / 64, split);
-    join(marks, base + 130, word);
+    join(marks, base + SOME + j / 64, split);
+    join(marks, base + SEEN, word);
 }
 
 // Marks the symbols of cell (i, k), where there are marks: the cell is a left part of the stretches that begin with it, and a right part of those
@@ -78,7 +78,7 @@ pub fn seen(marks: &[u64], r: usize) -> u64
     requires { (r < 96) × (131 * r + 131 ≤ length marks.now) × Told marks.now }
     ensures { SeenIn marks.now r result }
 {
-    marks[131 * r + 130]
+    marks[BLOCK * r + SEEN]
 }
 
 // ---- the marks of block r beside the column's
@@ -89,14 +89,8 @@ pub fn apart(marks: &[u64], r: usize, column: &[u64]) -> bool
     requires told { Told marks.now × Told column.now }
     ensures { result ≡ true → Apart marks.now r column.now }
 {
-    let some = 131 * r + 128;
-    if marks[some] & column[128] != 0 {
-        return false;
-    }
-    if marks[some + 1] & column[129] != 0 {
-        return false;
-    }
-    true
+    let some = BLOCK * r + SOME;
+    marks[some] & column[SOME] == 0 && marks[some + 1] & column[SOME + 1] == 0
 }
 
 // The splits, of those below 64 or of those from 64 on, at which a stands in block r and c in the column.
@@ -105,12 +99,10 @@ pub fn common(marks: &[u64], r: usize, a: usize, column: &[u64], c: usize, half:
     requires a_bound { (a < 64) × (c < 64) × (half < 2) × Told column.now }
     ensures { CommonIs marks.now r a column.now c half result }
 {
-    if column[128 + half] == 0 {
+    if column[SOME + half] == 0 {
         return 0;
     }
-    let left = marks[131 * r + 2 * a + half];
-    let right = column[2 * c + half];
-    left & right
+    marks[BLOCK * r + 2 * a + half] & column[2 * c + half]
 }
 
 // How many they are.
@@ -121,8 +113,5 @@ pub fn meeting(marks: &[u64], r: usize, a: usize, column: &[u64], c: usize) -> u
 {
     let low = common(marks, r, a, column, c, 0);
     let high = common(marks, r, a, column, c, 1);
-    if high == 0 {
-        return bits::ones(low) as u64;
-    }
-    bits::ones(low) as u64 + bits::ones(high) as u64
+    (bits::ones(low) + bits::ones(high)) as u64
 }

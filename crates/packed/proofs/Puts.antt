@@ -1,19 +1,23 @@
--- Words that are stored in bytes one by one, and a word by its halves.
+-- Words that are stored in bytes one after the other.
 -- Assumes nothing.
 use mathlib.Core.Path.{◌≡◌, refl, sym, ap, ◌∙◌, subst}
 use mathlib.Core.Logic.{⊎_elim}
-use mathlib.Core.List.{List, [], ◌∷◌, ◌++◌}
-use Prim.Native.Nat.{ℕ, suc, ◌+◌, ◌-◌, ◌*◌, ◌/◌, ◌%◌, ◌^◌, ◌≤◌, ◌<◌}
-use native.Mathlib.Nat.{add-zero, mul-suc, mul_assoc, pow-suc, mul_comm, mul-le-mul_left, le-div_iff_mul-le}
+use mathlib.Core.List.{List, ◌++◌}
+use Prim.Native.Nat.{ℕ, ◌+◌, ◌-◌, ◌*◌, ◌/◌, ◌≤◌, ◌<◌}
+use native.Mathlib.Nat.{mul-suc, mul_comm, mul-le-mul_left, le-div_iff_mul-le}
 use native.Mathlib.Omega.{arith}
-use lib.ListN.{length, get_or, take, drop, set, length-set, length-take, length-drop, length-append, get_or-append}
-use lib.Seq.{length-take-le, get_or-take, get_or-drop, get_or-append-add, drop-drop, take-add, ext_get_or, get_or-set_same, get_or-set_other}
+use lib.ListN.{length, get_or, take, drop, length-take, length-drop, length-append, get_or-append}
+use lib.Seq.{length-take-le, get_or-take, get_or-drop, get_or-append-add, ext_get_or}
+use borrow.Rule.Slice.PartMut.{put_mid, same_len_mid}
+use Rattle.std.specs.Prelude.{map}
+use Rattle.std.proofs.lemmas.List.{map-id, take-take}
+use Rattle.std.proofs.lemmas.Slice.{between-put_mid, take-put_mid_below, drop-put_mid}
 use Rattle.bits.specs.Frame.{Framed}
-use Rattle.bits.proofs.Frames.{framed_none, framed_set, framed_wider, framed_within}
+use Rattle.bits.proofs.Frames.{framed_none, framed_wider, framed_within}
 use Rattle.bits.proofs.Truths.{lt_or_ge}
 use Rattle.packed.specs.Packed.{value, words}
 use Rattle.packed.specs.Put.{PutWord, PutWords}
-use Rattle.packed.proofs.Words.{length_words, first_at, value_two}
+use Rattle.packed.proofs.Words.{length_words, first_at}
 
 -- bytes that agree from a place on, so many of them
 pub part_same : (a b : List ℕ) (at n : ℕ) → length a ≡ length b → ((y : ℕ) → at ≤ y → y < at + n → get_or a y 0 ≡ get_or b y 0) → take n (drop at a) ≡ take n (drop at b)
@@ -24,36 +28,23 @@ part_same a b at n e f = ext_get_or 0 _ _ (rw (length-take, length-take, length-
         let l : i < n = omega (arith, rw length-take at h) in
         get_or-take n (drop at a) i 0 l ∙ get_or-drop at a i 0 ∙ f (at + i) (omega arith) (omega (arith, l)) ∙ sym (get_or-take n (drop at b) i 0 l ∙ get_or-drop at b i 0)
 
--- ---- a word of two bytes
-pub put_bytes : (a : List ℕ) (at w : ℕ) → at + 2 ≤ length a → PutWord 2 at w a (set (set a at (w % 256)) (at + 1) (w / 256))
-put_bytes a at w h = record {
-  frame = framed_set a (set a at (w % 256)) at 2 1 (w / 256) (rw add-zero at (framed_set a a at 2 0 (w % 256) (framed_none a at 2) (omega arith))) (omega arith);
-  shown = value_two (set (set a at (w % 256)) (at + 1) (w / 256)) at (rw (length-set, length-set) h)
-      ∙ rw (low, get_or-set_same (set a at (w % 256)) (at + 1) (w / 256) 0 (rw length-set (omega (arith, h)))) (omega arith);
-}
-  where
-    low : get_or (set (set a at (w % 256)) (at + 1) (w / 256)) at 0 ≡ w % 256
-    low = get_or-set_other (set a at (w % 256)) (at + 1) at (w / 256) 0 (λ e. omega (arith, e)) ∙ get_or-set_same a at (w % 256) 0 (omega (arith, h))
-
--- ---- a word of twice the size
-value_append : (xs ys : List ℕ) → value (xs ++ ys) ≡ value xs + 256 ^ length xs * value ys
-unfolding value
-value_append [] ys = omega arith
-value_append (x ∷ xs) ys = let e = value_append xs ys in let p : 256 ^ suc (length xs) * value ys ≡ 256 * (256 ^ length xs * value ys) = rw (pow-suc, mul_comm (256 ^ length xs) 256, mul_assoc) refl in omega (arith, e, p)
-
-pub put_halves : (size at low high w : ℕ) (a b c : List ℕ) → at + (size + size) ≤ length a → low + 256 ^ size * high ≡ w
-    → PutWord size at low a b → PutWord size (at + size) high b c → PutWord (size + size) at w a c
-put_halves size at low high w a b c h e p q = record {
-  frame = framed_within a b c at (size + size) (at + size) size (omega arith) (omega arith) (framed_wider a b at size (size + size) (omega arith) p.frame) q.frame;
+-- ---- a word's bytes, in the place of as many others
+pub put_bytes : (a bs : List ℕ) (at k size w : ℕ) → k ≡ size → at + size ≤ length a → length bs ≡ size → value bs ≡ w → PutWord size at w a (put_mid at k a bs)
+put_bytes a bs at k size w z h e v = record {
+  frame = record {
+    long = same_len_mid at k a bs (e ∙ sym z ∙ sym (length-take-le k (drop at a) (rw length-drop (omega arith))));
+    before = λ y l. sym (get_or-take at _ y 0 l) ∙ ap (λ (q : List ℕ). get_or q y 0) (take-put_mid_below at k a bs at (omega arith) (omega arith)) ∙ get_or-take at a y 0 l;
+    after = λ y l.
+        let later : at + size + (y - (at + size)) ≡ y = omega arith in
+        subst (λ (x : ℕ). get_or (put_mid at k a bs) x 0 ≡ get_or a x 0) later
+        (sym (get_or-drop (at + size) _ (y - (at + size)) 0)
+        ∙ ap (λ (q : List ℕ). get_or q (y - (at + size)) 0) (drop-put_mid at k a bs (at + size) (omega arith) (omega arith) (e ∙ sym z))
+        ∙ get_or-drop (at + size) a (y - (at + size)) 0);
+  };
   shown =
-      ap value (take-add size size (drop at c) ∙ ap (λ (l : List ℕ). take size (drop at c) ++ take size l) (drop-drop size at c))
-      ∙ value_append (take size (drop at c)) (take size (drop (at + size) c))
-      ∙ rw (lows, length-take-le size (drop at c) (rw length-drop (omega (arith, h, p.frame.long, q.frame.long))), q.shown) e;
+      let part : at + size - at ≡ size = omega arith in
+      ap value (ap (λ (n : ℕ). take n (drop at (put_mid at k a bs))) (sym part) ∙ between-put_mid at k a bs (at + size) (omega arith) (e ∙ sym part)) ∙ v;
 }
-  where
-    -- the low half was not touched again
-    lows : value (take size (drop at c)) ≡ low
-    lows = ap value (part_same c b at size q.frame.long (λ y l m. q.frame.before y m)) ∙ p.shown
 
 -- ---- words stored one by one: the first i of ws
 pub record Standing (size i : ℕ) (ws before after : List ℕ) : Type 0 where
@@ -64,7 +55,7 @@ pub standing_none : (size : ℕ) (ws l : List ℕ) → Standing size 0 ws l l
 standing_none size ws l = record { frame = framed_none l 0 (size * 0); at = λ x h. absurd (omega (arith, h)) }
 
 -- the words before the place of word i end where it begins
-ends : (size x i : ℕ) → x < i → size * x + size ≤ size * i
+pub ends : (size x i : ℕ) → x < i → size * x + size ≤ size * i
 ends size x i h = rw (← mul-suc size x) (mul-le-mul_left size h)
 
 pub standing_more : (size i w : ℕ) (ws before mid after : List ℕ) → w ≡ get_or ws i 0 → Standing size i ws before mid → PutWord size (size * i) w mid after
@@ -132,3 +123,15 @@ module _ (size n : ℕ) (ws before after : List ℕ) (enough : n ≤ length ws) 
     before = λ x h. absurd (omega (arith, h));
     after = λ x h. ap (λ (l : List ℕ). get_or l x 0) p.shown ∙ later n ws (words size before) enough x (omega (arith, h));
   }
+
+-- ---- the first words of a list
+pub put_front : (size m n : ℕ) (ws before after : List ℕ) → m ≡ n → n ≤ length ws → PutWords size (length (take m ws)) (map (λ (w : ℕ). w) (take m ws)) before after
+    → PutWords size n ws before after
+put_front size m n ws before after e enough p =
+    let long : length (take m ws) ≡ n = length-take-le m ws (omega arith) ∙ e in
+    record {
+      frame = rw long at p.frame;
+      shown = p.shown
+          ∙ ap (λ (l : List ℕ). take (length (take m ws)) l ++ drop (length (take m ws)) (words size before)) (map-id (take m ws))
+          ∙ rw (long, e) (ap (λ (l : List ℕ). l ++ drop n (words size before)) (take-take n n ws (omega arith)));
+    }

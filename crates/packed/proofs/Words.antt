@@ -2,12 +2,14 @@
 -- Assumes nothing.
 use mathlib.Core.Path.{◌≡◌, refl, sym, ap, ◌∙◌}
 use mathlib.Core.List.{List, [], ◌∷◌, ◌++◌}
-use Prim.Native.Nat.{ℕ, zero, suc, ◌+◌, ◌*◌, ◌/◌, ◌≤◌, ◌<◌}
-use native.Mathlib.Nat.{mul-zero, mul-suc, add_comm}
-use native.Mathlib.Numerals.{add-one}
+use Prim.Native.Nat.{ℕ, zero, suc, ◌+◌, ◌*◌, ◌/◌, ◌%◌, ◌^◌, ◌≤◌, ◌<◌}
+use native.Mathlib.Nat.{mul-zero, mul-suc, add_comm, pow-zero, pow-suc, div-one, mod-one, mod-eq_of_lt, div-div-eq-div-mul}
 use native.Mathlib.Omega.{arith}
-use lib.ListN.{length, get_or, take, drop}
-use lib.Seq.{drop-cons, drop-drop}
+use lib.Arith.{mod-mul}
+use lib.ListN.{length, get_or, take, drop, length-drop}
+use lib.Seq.{drop-drop, length-take-le}
+use Rattle.std.specs.Int.{w16, byte_at, bytes_low_first, from_le_bytes}
+use Rattle.std.specs.Simd.{first_chunks}
 use Rattle.packed.specs.Packed.{value, first_words, words}
 
 -- where word x + 1 begins
@@ -43,7 +45,42 @@ first_more size (suc n) bs =
     (first_more size n (drop size bs)
     ∙ ap (λ (l : List ℕ). first_words size n (drop size bs) ++ (value (take size l) ∷ [])) (drop-drop (size * n) size bs ∙ ap (λ (m : ℕ). drop m bs) (next_word size n)))
 
--- a word of two bytes
-pub value_two : (bs : List ℕ) (at : ℕ) → at + 2 ≤ length bs → value (take 2 (drop at bs)) ≡ get_or bs at 0 + 256 * get_or bs (at + 1) 0
+-- ---- the bytes of a number
+byte_is : (i n : ℕ) → byte_at i n ≡ n / 256 ^ i % 256
+byte_is zero n = rw (pow-zero, div-one) refl
+byte_is (suc i) n = refl
+
+some_pow : (k : ℕ) → 0 < 256 ^ k
+some_pow zero = rw pow-zero (omega arith)
+some_pow (suc k) = rw pow-suc (omega (arith, some_pow k))
+
+value_low : (k i n : ℕ) → value (bytes_low_first i k n) ≡ n / 256 ^ i % 256 ^ k
 unfolding value
-value_two bs at h = rw (drop-cons bs at 0 (omega (arith, h)), drop-cons bs (suc at) 0 (omega (arith, h)), add-one at) (omega arith)
+value_low zero i n = rw (pow-zero, mod-one) refl
+value_low (suc k) i n =
+    let more : n / 256 ^ suc i ≡ n / 256 ^ i / 256 = rw (pow-suc, div-div-eq-div-mul) refl in
+    let split : n / 256 ^ i % (256 ^ k * 256) ≡ (n / 256 ^ i / 256 % 256 ^ k) * 256 + n / 256 ^ i % 256 = mod-mul (n / 256 ^ i) (some_pow k) (omega arith) in
+    rw (byte_is i n, value_low k (suc i) n, more, pow-suc, split) (omega arith)
+
+pub value_bytes : (k n : ℕ) → n < 256 ^ k → value (bytes_low_first 0 k n) ≡ n
+value_bytes k n h = value_low k 0 n ∙ rw (pow-zero, div-one) (mod-eq_of_lt h)
+
+pub value_pair : (bs : List ℕ) → length bs ≡ 2 → value bs ≡ from_le_bytes w16 bs
+unfolding value
+value_pair [] h = absurd (omega (arith, h))
+value_pair (a ∷ []) h = absurd (omega (arith, h))
+value_pair (a ∷ b ∷ []) h = omega arith
+value_pair (a ∷ b ∷ c ∷ bs) h = absurd (omega (arith, h))
+
+pub chunk_at : (size n : ℕ) (bs : List ℕ) (x : ℕ) (d : List ℕ) → x < n → get_or (first_chunks size n bs) x d ≡ take size (drop (size * x) bs)
+chunk_at size zero bs x d h = absurd (omega (arith, h))
+chunk_at size (suc n) bs zero d h = rw mul-zero refl
+chunk_at size (suc n) bs (suc x) d h =
+    chunk_at size n (drop size bs) x d (omega (arith, h)) ∙ ap (take size) (drop-drop (size * x) size bs ∙ ap (λ (m : ℕ). drop m bs) (next_word size x))
+
+-- word x is read from pair x
+pub word_pair : (bs : List ℕ) (x n : ℕ) (pairs : List (List ℕ)) → x < n → 2 * n ≤ length bs → pairs ≡ first_chunks 2 n bs
+    → from_le_bytes w16 (get_or pairs x []) ≡ value (take 2 (drop (2 * x) bs))
+word_pair bs x n pairs h fit e =
+    let is : get_or pairs x [] ≡ take 2 (drop (2 * x) bs) = ap (λ (l : List (List ℕ)). get_or l x []) e ∙ chunk_at 2 n bs x [] h in
+    ap (from_le_bytes w16) is ∙ sym (value_pair (take 2 (drop (2 * x) bs)) (length-take-le 2 (drop (2 * x) bs) (rw length-drop (omega arith))))

@@ -5,9 +5,9 @@ use native.Mathlib.Nat.{zero-mul, mul-zero, mul-one, suc-mul, add_assoc, le_of_l
 use native.Mathlib.Numerals.{add-one}
 use native.Mathlib.Decide.{ℕ_discrete}
 use native.Mathlib.Omega.{arith}
-use mathlib.Core.Path.{◌≡◌, refl, sym, ap, subst, ◌∙◌}
+use mathlib.Core.Path.{◌≡◌, refl, sym, ap, ◌∙◌}
 use mathlib.Core.Logic.{◌≢◌, ⊎_elim}
-use mathlib.Core.Bool.{true, false}
+use Rattle.std.proofs.Common.{Some, None}
 use mathlib.Core.List.{List}
 use lib.ListN.{get_or}
 use lib.Dec.{lit<}
@@ -23,22 +23,11 @@ use Rattle.derivation.proofs.Sound.{symbols_rise}
 use Rattle.derivation.proofs.Counts.{by_split, by_pair, count_more}
 use Rattle.derivation.proofs.Numbering.{derivation_once}
 use Rattle.derivation.proofs.Places.{node_at, node_room}
-use Rattle.table.specs.Fill.{split_adds}
 use Rattle.table.proofs.Adds.{Ready, split_counted}
 use Rattle.unrank.specs.Choice.{Planned}
 use Rattle.lookup.specs.declared.Pair.{Pair}
 use Rattle.lookup.specs.Rule.{PairIs}
-use Rattle.pages.specs.declared.next.Split.{Split}
-use Rattle.pages.specs.declared.next.Next.{Next}
-use Rattle.pages.specs.Step.{Skipped, Found, SplitIs, LastBy, Followed, first_by, NextIs}
-
--- ---- splits passed
-module _ (t : List ℕ) (N B C i k from : ℕ) where
-  pub skipped_start : Skipped t N B C i k from from
-  skipped_start = record { nothing = λ j a b. absurd (omega arith) }
-
-  pub skipped_on : (to : ℕ) → Skipped t N B C i k from to → split_adds t N B C i k to ≡ 0 → Skipped t N B C i k from (to + 1)
-  skipped_on to s z = record { nothing = λ j a b. elim (ℕ_discrete j to) [ yes e ↦ rw e z | no e ↦ s.nothing j a (omega arith) ] }
+use Rattle.pages.specs.Step.{Skipped, Found, SplitIs, LastBy, first_by, NextIs}
 
 -- ---- sums that zeros do not change
 between_skip : (i from to : ℕ) (f : ℕ → ℕ) → i < from → from ≤ to → ((j : ℕ) → from ≤ j → j < to → f j ≡ 0) → between i to f ≡ between i from f
@@ -165,35 +154,32 @@ pub record Walked (g : Grammar) (w : List ℕ) (A i k b j c from : ℕ) : Type 0
 
 module _ (g : Grammar) (ok : Sound g) (w t : List ℕ) (A i k : ℕ) (r : Ready g w t i k) (b j : ℕ)
     (rule : b < pair_rule_count g) (symbol : (pair_rule g b).symbol ≡ A) (after : i < j) (before : j < k) where
-  pub walked_start : Walked g w A i k b j b (j + 1)
-  walked_start = record { low = omega arith; high = le_of_lt rule; after = omega arith; before = omega arith; later = λ l. absurd (omega arith); place = refl }
-
   -- what it comes to is behind the last by rule b and split j
-  ends : (n : Next) → n.found ≡ false → start g w A i k b (j + 1) ≡ count g w A i k → NextIs g w A i k b j n
-  ends n e h = record { behind = λ q l. subst (λ f. Followed g w A i k q f n.plan) (sym e) (last_place g w A i k b j rule symbol after before q l ∙ h) }
+  ends : start g w A i k b (j + 1) ≡ count g w A i k → NextIs g w A i k b j None
+  ends h = record { behind = λ q l. last_place g w A i k b j rule symbol after before q l ∙ h }
 
   module _ (c from : ℕ) (v : Walked g w A i k b j c from) where
-    pub walked_out : (n : Next) → n.found ≡ false → pair_rule_count g ≤ c → NextIs g w A i k b j n
-    walked_out n e h =
+    pub walked_out : pair_rule_count g ≤ c → NextIs g w A i k b j None
+    walked_out h =
         let c≡ : c ≡ pair_rule_count g = omega (arith, v.high) in
         let f≡ = v.later (omega arith) in
-        ends n e (rules_over g ok w t A i k r _ (omega arith) (sym v.place ∙ rw (c≡, f≡)))
+        ends (rules_over g ok w t A i k r _ (omega arith) (sym v.place ∙ rw (c≡, f≡)))
 
     -- rule c is p
     module _ (N : ℕ) (p : Pair) (en : N ≡ g.symbols) (is : PairIs g c p) (h : c < pair_rule_count g) where
-      pub walked_other : (n : Next) → n.found ≡ false → (p.symbol ≡ A → ⊥) → NextIs g w A i k b j n
-      walked_other n e o =
+      pub walked_other : (p.symbol ≡ A → ⊥) → NextIs g w A i k b j None
+      walked_other o =
           let other : (pair_rule g c).symbol ≢ A = λ z. o (is.symbol ∙ z) in
           let l : b < c = elim (ℕ_discrete b c) [ yes y ↦ absurd (other (rw (sym y) symbol)) | no y ↦ omega (arith, v.low) ] in
-          ends n e (symbol_over g ok w t A i k r _ b c (omega arith) l h symbol other (sym v.place ∙ rw (v.later l)))
+          ends (symbol_over g ok w t A i k r _ b c (omega arith) l h symbol other (sym v.place ∙ rw (v.later l)))
 
-      module _ (own : p.symbol ≡ A) (s : Split) (d : SplitIs t N p.left p.right i k from s) where
+      module _ (own : p.symbol ≡ A) where
         own_symbol : (pair_rule g c).symbol ≡ A
         own_symbol = sym is.symbol ∙ own
 
-        pub walked_on : s.found ≡ false → Walked g w A i k b j (c + 1) (i + 1)
-        walked_on e =
-            let z = rw (e, en, is.left, is.right) at d in
+        pub walked_on : SplitIs t N p.left p.right i k from None → Walked g w A i k b j (c + 1) (i + 1)
+        walked_on d =
+            let z = rw (en, is.left, is.right) at d in
             record {
               low = omega (arith, v.low);
               high = omega arith;
@@ -203,12 +189,12 @@ module _ (g : Grammar) (ok : Sound g) (w t : List ℕ) (A i k : ℕ) (r : Ready 
               place = rule_over g ok w t A i k r c h own_symbol from v.after v.before z ∙ v.place;
             }
 
-        pub walked_found : (n : Next) → s.found ≡ true → n.found ≡ true → event_rule_count g + c < 65536 → n.plan ≡ first_by (event_rule_count g + c) s.split p.left p.right
-            → NextIs g w A i k b j n
-        walked_found n e f word m =
-            let z = rw (e, en, is.left, is.right) at d in
+        pub walked_found : (split : ℕ) → SplitIs t N p.left p.right i k from (Some split) → event_rule_count g + c < 65536
+            → NextIs g w A i k b j (Some (first_by (event_rule_count g + c) split p.left p.right))
+        walked_found split d word =
+            let z = rw (en, is.left, is.right) at d in
             record {
               behind = λ q l.
-                  let x = rule_gives g ok w t A i k r c h own_symbol from v.after (q + 1) s.split (last_place g w A i k b j rule symbol after before q l ∙ sym v.place) z word in
-                  subst (λ f. Followed g w A i k q f n.plan) (sym f) (x.0, rw (m, is.left, is.right) x.1);
+                  rw (is.left, is.right)
+                  (rule_gives g ok w t A i k r c h own_symbol from v.after (q + 1) split (last_place g w A i k b j rule symbol after before q l ∙ sym v.place) z word);
             }

@@ -97,7 +97,7 @@ module _ (g : Grammar) (w : List ℕ) (k count : ℕ) (some : k + count ≤ leng
         l.text ∙ rw (l.place, c) (ap (λ (r : List ℕ). page_of g w k count ++ r) whole_rest)
 
     -- the last of them stands at `at`, and `copied` is the room with it once more behind it
-    module _ (at : ℕ) (ends : end ≡ at + W) (positive : 0 < x) (h : x < count) (copied : List ℕ) (c : copied ≡ paste now end (drop at now) W) where
+    module _ (at : ℕ) (ends : end ≡ at + W) (positive : 0 < x) (h : x < count) (copied : List ℕ) (c : copied ≡ paste now end (drop at now) (end - at)) where
       abbrev y : ℕ
       y = x - 1
 
@@ -123,9 +123,12 @@ module _ (g : Grammar) (w : List ℕ) (k count : ℕ) (some : k + count ≤ leng
       copied_is : copied ≡ page_of g w k x ++ (last ++ rest)
       copied_is =
           c
-          ∙ rw (← (drop-drop W end now), front, behind, last_front)
+          ∙ rw (as_long, ← (drop-drop W end now), front, behind, last_front)
           (append_assoc (page_of g w k x) last (drop W (drop end before)) ∙ ap (λ (r : List ℕ). page_of g w k x ++ (last ++ r)) (drop-drop W end before))
         where
+          as_long : end - at ≡ W
+          as_long = omega arith
+
           front : take end now ≡ page_of g w k x
           front = ap (take end) l.text ∙ take_at (page_of g w k x) (drop end before) end long
 
@@ -136,11 +139,6 @@ module _ (g : Grammar) (w : List ℕ) (k count : ℕ) (some : k + count ≤ leng
           last_front =
               ap (λ (m : List ℕ). take W (drop at m)) apart
               ∙ ap (take W) (drop_at (page_of g w k y) (last ++ drop end before) at at_long) ∙ take_at last (drop end before) W last_long
-
-      pub copied_length : length copied ≡ length entry
-      copied_length =
-          ap length copied_is
-          ∙ omega (arith, length-append (page_of g w k x) (last ++ rest), length-append last rest, long, last_long, length-drop (end + W) before, first_length, laid_length, laid_fits h)
 
       -- a record with events has derivations for readings
       module _ (events : 0 < length w) where

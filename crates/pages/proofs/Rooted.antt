@@ -7,6 +7,7 @@ use mathlib.Core.Path.{◌≡◌, refl, sym, ap, ◌∙◌}
 use mathlib.Core.Logic.{◌≢◌}
 use mathlib.Core.Bool.{Bool, true, false}
 use mathlib.Core.List.{List, ◌∷◌, ◌++◌, append_assoc}
+use Rattle.std.proofs.Common.{Some, None}
 use lib.ListN.{length, get_or, drop, length-append}
 use lib.Seq.{drop_at}
 use Rattle.bits.specs.Sum.{sum, between}
@@ -26,8 +27,7 @@ use Rattle.table.specs.Fill.{CountsIn}
 use Rattle.unrank.specs.declared.choose.Plan.{Plan}
 use Rattle.unrank.specs.Choice.{PlanOk, plan_tree, Planned}
 use Rattle.unrank.proofs.Room.{script_words_is}
-use Rattle.pages.specs.declared.next.Next.{Next}
-use Rattle.pages.specs.Step.{Begins, Begun, Stepped, Parted, SomeParted, PartsNext, PartsLast, PartsTo, PartsStepped, LastBy, Followed, NextIs}
+use Rattle.pages.specs.Step.{Begins, Begun, Stepped, Parted, SomeParted, PartsNext, PartsLast, PartsTo, PartsStepped, LastBy, NextIs}
 use Rattle.pages.proofs.Following.{placed}
 
 -- derivation number q is by pair rule b and the split j, and the room begins with it
@@ -176,18 +176,18 @@ module _ (g : Grammar) (w : List ℕ) (A i k : ℕ) (n : k ≢ i + 1) (room : Li
           pub parts_kept : room₁ ≡ room
           parts_kept = over.kept
 
+          last : LastBy g w A i k b j q
+          last = parts_last g w A i k b j q rest room root p is room₁ over
+
           -- what stands behind them
-          module _ (next : Next) (follows : NextIs g w A i k b j next) where
-            followed : Followed g w A i k q next.found next.plan
-            followed = follows.behind q (parts_last g w A i k b j q rest room root p is room₁ over)
+          pub no_more : NextIs g w A i k b j None → (q + 1 ≡ count g w A i k) × (room₁ ≡ room)
+          no_more follows = (follows.behind q last, over.kept)
 
-            pub no_more : next.found ≡ false → (q + 1 ≡ count g w A i k) × (room₁ ≡ room)
-            no_more f = (rw f at followed, over.kept)
+          module _ (plan : Plan) (follows : NextIs g w A i k b j (Some plan)) where
+            pub plan_ok : PlanOk g w i k plan
+            plan_ok = (follows.behind q last).1.parts
 
-            pub plan_ok : next.found ≡ true → PlanOk g w i k next.plan
-            plan_ok f = (rw f at followed).1.parts
-
-            pub plan_written : next.found ≡ true → (room₂ : List ℕ) → room₂ ≡ script (plan_tree g w i k next.plan) ++ drop (script_word_count (k - i)) room₁ → Begins g w A i k (q + 1) rest room₂
-            plan_written f room₂ h =
-                let y = rw f at followed in
-                plan_begins g w A i k q rest room next.plan room₂ a y.0 y.1 (rw over.kept at h)
+            pub plan_written : (room₂ : List ℕ) → room₂ ≡ script (plan_tree g w i k plan) ++ drop (script_word_count (k - i)) room₁ → Begins g w A i k (q + 1) rest room₂
+            plan_written room₂ h =
+                let y = follows.behind q last in
+                plan_begins g w A i k q rest room plan room₂ a y.0 y.1 (rw over.kept at h)

@@ -1,6 +1,6 @@
 -- Inside: from one derivation to the next: in the words of its script, and in its root's rule and split. "Next" is by number (`Derivations`).
 -- Assumes nothing.
-use Rattle.std.specs.Prelude.{◌≡◌, Bool, true, false, List, ◌∷◌, ◌++◌, ℕ, ◌+◌, ◌*◌, ◌≤◌, ◌<◌, get_or}
+use Rattle.std.specs.Prelude.{◌≡◌, Bool, true, false, Option, MatchOption, List, ◌∷◌, ◌++◌, ℕ, ◌+◌, ◌*◌, ◌≤◌, ◌<◌, get_or}
 use Rattle.derivation.specs.Grammar.{Grammar, event_rule_count, pair_rule}
 use Rattle.derivation.specs.Tree.{node, script}
 use Rattle.derivation.specs.Derivations.{derivations, count}
@@ -9,8 +9,6 @@ use Rattle.lookup.specs.declared.Pair.{Pair}
 use Rattle.table.specs.Fill.{split_adds}
 use Rattle.unrank.specs.declared.choose.Plan.{Plan}
 use Rattle.unrank.specs.Choice.{Planned}
-use Rattle.pages.specs.declared.next.Split.{Split}
-use Rattle.pages.specs.declared.next.Next.{Next}
 
 -- ---- the words
 -- they begin with the script of derivation number q of A over i to k, and rest follows
@@ -79,12 +77,9 @@ pub record Found (t : List ℕ) (N B C i k from j : ℕ) : Type 0 where
   pub some : 0 < split_adds t N B C i k j
   pub skipped : Skipped t N B C i k from j
 
-abbrev pub FoundOr : List ℕ → (N B C i k from : ℕ) → Bool → ℕ → Type 0
-FoundOr t N B C i k from true j = Found t N B C i k from j
-FoundOr t N B C i k from false j = Skipped t N B C i k from k
-
-abbrev pub SplitIs : List ℕ → (N B C i k from : ℕ) → Split → Type 0
-SplitIs t N B C i k from s = FoundOr t N B C i k from s.found s.split
+-- it is this one; or there is none
+abbrev pub SplitIs : List ℕ → (N B C i k from : ℕ) → Option ℕ → Type 0
+SplitIs t N B C i k from s = MatchOption s (Skipped t N B C i k from k) (λ j. Found t N B C i k from j)
 
 -- derivation number q of A over i to k is the last by pair rule b and the split j
 pub record LastBy (g : Grammar) (w : List ℕ) (A i k b j q : ℕ) : Type 0 where
@@ -97,13 +92,13 @@ pub record LastBy (g : Grammar) (w : List ℕ) (A i k b j q : ℕ) : Type 0 wher
       ≡ node (event_rule_count g + b) j (get_or (derivations g w (pair_rule g b).left i j) x none) (get_or (derivations g w (pair_rule g b).right j k) y none)
 
 -- the plan of the one behind it; or there is none
-abbrev pub Followed : Grammar → List ℕ → (A i k q : ℕ) → Bool → Plan → Type 0
-Followed g w A i k q true p = (q + 1 < count g w A i k) × Planned g w A i k (q + 1) p
-Followed g w A i k q false p = q + 1 ≡ count g w A i k
+abbrev pub Followed : Grammar → List ℕ → (A i k q : ℕ) → Option Plan → Type 0
+Followed g w A i k q n =
+    MatchOption n (q + 1 ≡ count g w A i k) (λ p. (q + 1 < count g w A i k) × Planned g w A i k (q + 1) p)
 
 -- the plan with this root and both parts number 0
 abbrev pub first_by : (rule split left right : ℕ) → Plan
-first_by r j B C = record { rule = r; split = j; left = B; first = 0; right = C; second = 0 }
+first_by r j B C = record { rule = r; split = j; left = record { symbol = B; number = 0 }; right = record { symbol = C; number = 0 } }
 
-pub record NextIs (g : Grammar) (w : List ℕ) (A i k b j : ℕ) (n : Next) : Type 0 where
-  pub behind : (q : ℕ) → LastBy g w A i k b j q → Followed g w A i k q n.found n.plan
+pub record NextIs (g : Grammar) (w : List ℕ) (A i k b j : ℕ) (n : Option Plan) : Type 0 where
+  pub behind : (q : ℕ) → LastBy g w A i k b j q → Followed g w A i k q n

@@ -2,12 +2,12 @@
 ghost use Rattle.std.specs.Prelude.{◌≡◌, ◌≤◌, ◌<◌, length};
 ghost use Rattle.bits.specs.Sum.{sum, between};
 ghost use Rattle.derivation.specs.Grammar.{pair_rule_count};
-ghost use Rattle.layout.specs.Layout.{decode};
-ghost use Rattle.image.specs.Accepted.{Accepted};
-ghost use Rattle.table.specs.Table.{held, table_words};
+ghost use Rattle.image.specs.Shown.{shown};
+ghost use Rattle.table.specs.Table.{held};
 ghost use Rattle.table.specs.Fill.{split_adds, pair_adds, InReach};
 ghost use Rattle.rank.specs.Rank.{place_of};
 
+use table::Counts;
 use table::numbers::{held_product, held_sum};
 
 // What two symbols add over i to k with the splits before `to`.
@@ -32,17 +32,16 @@ fn splits_before(
 }
 
 // What the pair rules before rule b add to the word of the symbol over i to k.
-fn rules_before(image: &[u8], table: &[u32], symbol: usize, i: usize, k: usize, b: usize) -> u32
-    requires accepted { Accepted image.now }
-    requires i_lt_k { (i < k) × (k < 65536) × (table_words (decode image.now).symbols k ≤ length table.now) }
-    requires b_bound { b ≤ pair_rule_count (decode image.now) }
-    ensures { result ≡ held (sum b (pair_adds (decode image.now) table.now i k symbol)) }
+fn rules_before(counts: Counts<'_>, symbol: usize, i: usize, k: usize, b: usize) -> u32
+    requires i_lt_k { (i < k) × (k ≤ length counts.events.now) × (k < 65536) }
+    requires b_bound { b ≤ pair_rule_count (shown counts.grammar) }
+    ensures { result ≡ held (sum b (pair_adds (shown counts.entry.grammar) counts.entry.table.now i k symbol)) }
 {
-    let symbols = layout::symbol_count(image);
-    let leaves = layout::leaf_count(image);
+    let Counts { grammar, table, .. } = counts;
+    let symbols = grammar.symbol_count();
     let mut total: u32 = 0;
     for c in 0..b {
-        let p = lookup::pair_of(image, leaves, c);
+        let p = lookup::pair_of(grammar, c);
         if p.symbol == symbol {
             let share = splits_before(table, symbols, p.left, p.right, i, k, k);
             total = held_sum(total, share);
@@ -53,8 +52,7 @@ fn rules_before(image: &[u8], table: &[u32], symbol: usize, i: usize, k: usize, 
 
 // The number of a derivation over i to k by pair rule b and the split j, held at the limit, from those of its two parts.
 pub fn node_rank(
-    image: &[u8],
-    table: &[u32],
+    counts: Counts<'_>,
     i: usize,
     k: usize,
     b: usize,
@@ -62,15 +60,14 @@ pub fn node_rank(
     first: u32,
     second: u32,
 ) -> u32
-    requires accepted { Accepted image.now }
-    requires i_lt_j { (i < j) × (j < k) × (k < 65536) × (table_words (decode image.now).symbols k ≤ length table.now) }
-    requires b_bound { b < pair_rule_count (decode image.now) }
-    ensures { result ≡ held (place_of (decode image.now) table.now i k b j first second) }
+    requires i_lt_j { (i < j) × (j < k) × (k ≤ length counts.events.now) × (k < 65536) }
+    requires b_bound { b < pair_rule_count (shown counts.grammar) }
+    ensures { result ≡ held (place_of (shown counts.entry.grammar) counts.entry.table.now i k b j first second) }
 {
-    let symbols = layout::symbol_count(image);
-    let leaves = layout::leaf_count(image);
-    let p = lookup::pair_of(image, leaves, b);
-    let rules = rules_before(image, table, p.symbol, i, k, b);
+    let Counts { grammar, table, .. } = counts;
+    let symbols = grammar.symbol_count();
+    let p = lookup::pair_of(grammar, b);
+    let rules = rules_before(counts, p.symbol, i, k, b);
     let splits = splits_before(table, symbols, p.left, p.right, i, k, j);
     let count = table::word_of(table, symbols, p.right, j, k);
     let lefts = held_product(first, count);

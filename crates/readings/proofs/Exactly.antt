@@ -17,11 +17,11 @@ use Rattle.image.specs.Accepted.{Accepted}
 use Rattle.image.proofs.Refusals.{none, pass, first_only, past_zero, reached, passed, all_hold}
 use Rattle.image.proofs.Images.{accepted_back, record_holding}
 use Rattle.table.specs.Table.{limit}
-use Rattle.readings.specs.declared.Counted.{Counted}
-use Rattle.readings.specs.declared.Read.{Read}
-use Rattle.readings.specs.declared.Paged.{Paged}
-use Rattle.readings.specs.declared.Checked.{Checked}
-use Rattle.readings.specs.declared.Found.{Found}
+use Rattle.readings.specs.Answer.{Counted}
+use Rattle.readings.specs.Answer.{Read}
+use Rattle.readings.specs.Answer.{Paged}
+use Rattle.readings.specs.Answer.{Checked}
+use Rattle.readings.specs.Answer.{Found}
 use Rattle.readings.specs.Count.{how_many, table_rows, count_rows, CountIs}
 use Rattle.readings.specs.Reading.{room_rows, number_rows, lent_rows, ReadingIs}
 use Rattle.readings.specs.Page.{PageIs}

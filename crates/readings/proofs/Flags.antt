@@ -20,11 +20,11 @@ use Rattle.image.specs.Accepted.{Accepted}
 use Rattle.image.proofs.Refusals.{behind}
 use Rattle.image.proofs.Flags.{rows_flagged, names_flagged}
 use Rattle.table.specs.Table.{held, table_words, Filled}
-use Rattle.readings.specs.declared.Counted.{Counted}
-use Rattle.readings.specs.declared.Read.{Read}
-use Rattle.readings.specs.declared.Paged.{Paged}
-use Rattle.readings.specs.declared.Checked.{Checked}
-use Rattle.readings.specs.declared.Found.{Found}
+use Rattle.readings.specs.Answer.{Counted}
+use Rattle.readings.specs.Answer.{Read}
+use Rattle.readings.specs.Answer.{Paged}
+use Rattle.readings.specs.Answer.{Checked}
+use Rattle.readings.specs.Answer.{Found}
 use Rattle.readings.specs.Count.{how_many, table_rows, CountIs}
 use Rattle.readings.specs.Reading.{room_rows, number_rows, ReadingIs}
 use Rattle.readings.specs.Page.{on_page, PageIs}

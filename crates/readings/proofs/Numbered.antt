@@ -19,8 +19,8 @@ use Rattle.layout.specs.Layout.{decode}
 use Rattle.image.specs.Refusal.{First}
 use Rattle.image.proofs.Refusals.{none, pass, first_only, past_zero, reached, passed}
 use Rattle.table.specs.Table.{limit}
-use Rattle.readings.specs.declared.Read.{Read}
-use Rattle.readings.specs.declared.Checked.{Checked}
+use Rattle.readings.specs.Answer.{Read}
+use Rattle.readings.specs.Answer.{Checked}
 use Rattle.readings.specs.Count.{how_many}
 use Rattle.readings.specs.Reading.{lent_rows, number_rows, ReadingIs}
 use Rattle.readings.specs.Check.{CheckIs}

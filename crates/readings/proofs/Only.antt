@@ -12,11 +12,11 @@ use Rattle.layout.specs.Layout.{decode}
 use Rattle.image.proofs.Refusals.{first_only}
 use Rattle.image.proofs.Named.{names_same}
 use Rattle.table.proofs.Tables.{filled_only}
-use Rattle.readings.specs.declared.Counted.{Counted}
-use Rattle.readings.specs.declared.Read.{Read}
-use Rattle.readings.specs.declared.Paged.{Paged}
-use Rattle.readings.specs.declared.Checked.{Checked}
-use Rattle.readings.specs.declared.Found.{Found}
+use Rattle.readings.specs.Answer.{Counted}
+use Rattle.readings.specs.Answer.{Read}
+use Rattle.readings.specs.Answer.{Paged}
+use Rattle.readings.specs.Answer.{Checked}
+use Rattle.readings.specs.Answer.{Found}
 use Rattle.readings.specs.Count.{how_many, CountIs}
 use Rattle.readings.specs.Reading.{number_rows, Fills, ReadingIs}
 use Rattle.readings.specs.Page.{PageIs}

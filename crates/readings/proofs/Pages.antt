@@ -16,8 +16,8 @@ use Rattle.image.specs.Exactly.{AllHold}
 use Rattle.image.proofs.Refusals.{all_hold, first_only, past_zero, passed}
 use Rattle.image.specs.Image.{most_events}
 use Rattle.table.specs.Table.{limit, held}
-use Rattle.readings.specs.declared.Read.{Read}
-use Rattle.readings.specs.declared.Paged.{Paged}
+use Rattle.readings.specs.Answer.{Read}
+use Rattle.readings.specs.Answer.{Paged}
 use Rattle.readings.specs.Count.{how_many}
 use Rattle.readings.specs.Reading.{ReadingPasses, lent_rows, number_rows, reading_rows, ReadingIs}
 use Rattle.readings.specs.Page.{on_page, PageIs}

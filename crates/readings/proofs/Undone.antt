@@ -13,7 +13,7 @@ use Rattle.layout.specs.Layout.{decode}
 use Rattle.image.specs.Refusal.{First}
 use Rattle.image.proofs.Refusals.{all_hold, first_only, past_zero, passed}
 use Rattle.table.specs.Table.{limit}
-use Rattle.readings.specs.declared.Found.{Found}
+use Rattle.readings.specs.Answer.{Found}
 use Rattle.readings.specs.Count.{count_rows}
 use Rattle.readings.specs.Number.{script_rows, NumberIs}
 use Rattle.readings.specs.Demand.{written}

@@ -6,7 +6,7 @@ use Rattle.derivation.specs.Reading.{IsReading}
 use Rattle.layout.specs.Layout.{decode}
 use Rattle.image.specs.Refusal.{First}
 use Rattle.image.specs.Image.{record_rows, Names}
-use Rattle.readings.specs.declared.Checked.{Checked}
+use Rattle.readings.specs.Answer.{Checked}
 
 pub record CheckIs (b w s : List ℕ) (r : Checked) : Type 0 where
   pub refusal : First (record_rows b (length w)) r.refusal

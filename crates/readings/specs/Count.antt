@@ -7,7 +7,7 @@ use Rattle.layout.specs.Layout.{decode}
 use Rattle.image.specs.Refusal.{Row, ◌unless◌, First}
 use Rattle.image.specs.Image.{record_rows, Names}
 use Rattle.table.specs.Table.{held, table_words, Filled}
-use Rattle.readings.specs.declared.Counted.{Counted}
+use Rattle.readings.specs.Answer.{Counted}
 
 -- the true number of readings
 abbrev pub how_many : Grammar → List ℕ → ℕ

@@ -6,7 +6,7 @@ use Rattle.derivation.specs.Tree.{script_word_count}
 use Rattle.derivation.specs.Reading.{IsReading}
 use Rattle.layout.specs.Layout.{decode}
 use Rattle.table.specs.Table.{limit}
-use Rattle.readings.specs.declared.Read.{Read}
+use Rattle.readings.specs.Answer.{Read}
 use Rattle.readings.specs.Count.{how_many}
 use Rattle.readings.specs.Reading.{ReadingPasses, ReadingIs}
 

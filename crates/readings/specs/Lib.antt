@@ -1,3 +1,4 @@
+pub mod Answer
 pub mod Count
 pub mod Reading
 pub mod Check

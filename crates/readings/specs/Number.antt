@@ -10,7 +10,7 @@ use Rattle.image.specs.Image.{Names}
 use Rattle.table.specs.Table.{limit, Filled}
 use Rattle.readings.specs.Count.{count_rows}
 use Rattle.readings.specs.Reading.{Fills}
-use Rattle.readings.specs.declared.Found.{Found}
+use Rattle.readings.specs.Answer.{Found}
 
 -- refusals 12 and 13. 12: the words are not the script of a reading. 13: the number of that reading is the limit or more
 abbrev pub script_rows : Grammar → (w s : List ℕ) → List Row

@@ -9,7 +9,7 @@ use Rattle.image.specs.Image.{Names}
 use Rattle.table.specs.Table.{held, Filled}
 use Rattle.readings.specs.Count.{how_many}
 use Rattle.readings.specs.Reading.{number_rows, lent_rows, Fills}
-use Rattle.readings.specs.declared.Paged.{Paged}
+use Rattle.readings.specs.Answer.{Paged}
 
 -- the refusals of a single reading for k, with 11 judged on m scripts
 abbrev pub page_rows : (b w : List ℕ) (k m : ℕ) (table room : List ℕ) → List Row

@@ -4,8 +4,8 @@ use Rattle.std.specs.Prelude.{◌≡◌, List, ℕ, ◌+◌, ◌*◌, ◌≤◌,
 use Rattle.derivation.specs.Tree.{script_word_count}
 use Rattle.image.specs.Refusal.{First}
 use Rattle.table.specs.Table.{limit}
-use Rattle.readings.specs.declared.Read.{Read}
-use Rattle.readings.specs.declared.Paged.{Paged}
+use Rattle.readings.specs.Answer.{Read}
+use Rattle.readings.specs.Answer.{Paged}
 use Rattle.readings.specs.Reading.{lent_rows, ReadingPasses, ReadingIs}
 use Rattle.readings.specs.Page.{PageIs}
 use Rattle.readings.specs.Demand.{Gave, written}

@@ -9,7 +9,7 @@ use Rattle.image.specs.Refusal.{Row, ◌unless◌, First}
 use Rattle.image.specs.Image.{Names}
 use Rattle.table.specs.Table.{limit, Filled}
 use Rattle.readings.specs.Count.{how_many, count_rows}
-use Rattle.readings.specs.declared.Read.{Read}
+use Rattle.readings.specs.Answer.{Read}
 
 -- refusal 11: need words, a room of space words
 abbrev pub room_rows : (need space : ℕ) → List Row

@@ -2,8 +2,8 @@
 -- Assumes nothing.
 use Rattle.std.specs.Prelude.{◌≡◌, List, ℕ, length}
 use Rattle.image.specs.Refusal.{First}
-use Rattle.readings.specs.declared.Read.{Read}
-use Rattle.readings.specs.declared.Found.{Found}
+use Rattle.readings.specs.Answer.{Read}
+use Rattle.readings.specs.Answer.{Found}
 use Rattle.readings.specs.Count.{count_rows}
 use Rattle.readings.specs.Reading.{ReadingPasses, ReadingIs}
 use Rattle.readings.specs.Number.{NumberIs}

@@ -1,35 +1,17 @@
--- Inside: the demands by the code's names, the search for the first rule at fault, and a rule as one number.
+-- Inside: the numbers of a rule as the code has it, and the search for the first rule at fault.
 -- Assumes nothing.
-use Rattle.std.specs.Prelude.{ℕ, ◌+◌, ◌-◌, ◌*◌, ◌≤◌, ◌<◌, ◌≡◌}
+use Rattle.std.specs.Prelude.{ℕ, List, [], ◌∷◌, Option, Some, None}
 use Rattle.bits.specs.Truth.{Every}
-use Rattle.derivation.specs.Grammar.{Grammar, event_rule_count, event_rule, pair_rule, rule_symbol}
-use Rattle.derivation.specs.Sound.{SymbolsFit, Rises}
 use Rattle.rules.specs.Fault.{FirstFault}
-use Rattle.rules.specs.declared.Demand.{Demand}
-use Rattle.rules.specs.declared.Demand.TheVariants.{Fits, Above}
+use Rattle.rules.specs.declared.Rule.{Rule}
+use Rattle.rules.specs.declared.Rule.TheVariants.{Leaf, Pair}
 
--- the two demands on a rule, by the code's names for them
-abbrev pub Passes : Demand → Grammar → ℕ → Type 0
-Passes Fits g r = SymbolsFit g r
-Passes Above g r = Rises g r
+-- in the order in which rules are compared: by symbol, and then by what follows
+abbrev pub numbers : Rule → List ℕ
+numbers (Leaf s e) = s ∷ e ∷ []
+numbers (Pair s a b) = s ∷ a ∷ b ∷ []
 
--- what a search for it answers: the first fault, or m where there is none
-pub record SearchIs (m : ℕ) (P : ℕ → Type 0) (r : ℕ) : Type 0 where
-  pub within : r ≤ m
-  pub found : r < m → FirstFault m P r
-  pub clean : m ≤ r → Every m P
-
--- s and e, and s, a and b, as one number k
-pub record LeafKey (s e k : ℕ) : Type 0 where
-  pub is : k ≡ 65536 * s + e
-  pub small : e < 65536
-
-pub record PairKey (s a b k : ℕ) : Type 0 where
-  pub is : k ≡ 65536 * s + 256 * a + b
-  pub left_small : a < 256
-  pub right_small : b < 256
-
--- k is rule r as one number
-pub record KeyIs (g : Grammar) (r k : ℕ) : Type 0 where
-  pub leaf : r < event_rule_count g → LeafKey (rule_symbol g r) (event_rule g r).event k
-  pub pair : event_rule_count g ≤ r → PairKey (rule_symbol g r) (pair_rule g (r - event_rule_count g)).left (pair_rule g (r - event_rule_count g)).right k
+-- what a search for it answers: the first fault, or nothing where there is none
+abbrev pub SearchIs : (m : ℕ) (P : ℕ → Type 0) → Option ℕ → Type 0
+SearchIs m P None = Every m P
+SearchIs m P (Some r) = FirstFault m P r

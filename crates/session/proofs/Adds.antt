@@ -1,15 +1,14 @@
 -- Laws of `AddIs`: a refusal is a row of the table and success past all rows; and only one outcome meets the record, every word of the session
 -- too.
 -- Assumes nothing.
-use mathlib.Core.Path.{◌≡◌, refl, sym, ap, ◌∙◌, subst⁻¹}
-use mathlib.Core.Logic.{◌≢◌}
-use mathlib.Core.Bool.{false}
+use mathlib.Core.Path.{◌≡◌, refl, sym, ◌∙◌, subst⁻¹}
 use mathlib.Core.List.{List}
 use Prim.Native.Nat.{ℕ, ◌+◌, ◌≤◌, ◌<◌}
 use native.Mathlib.Decide.{ℕ_discrete}
 use native.Mathlib.Omega.{arith}
 use lib.ListN.{get_or}
 use lib.Seq.{ext_get_or}
+use Rattle.std.specs.declared.result.Result.TheVariants.{Ok, Err}
 use Rattle.bits.specs.Truth.{Decides}
 use Rattle.bits.proofs.Truths.{decides_only}
 use Rattle.bits.specs.Bit.{bit}
@@ -19,14 +18,18 @@ use Rattle.derivation.proofs.Columns.{before_mono}
 use Rattle.layout.specs.Layout.{decode}
 use Rattle.image.specs.Refusal.{First}
 use Rattle.image.specs.Image.{image_rows, Names}
+use Rattle.image.specs.Answer.{number_of, rule_of}
 use Rattle.image.specs.Accepted.{Accepted}
+use Rattle.image.specs.declared.numbered.Refusal.{Refusal}
 use Rattle.image.proofs.Refusals.{first_only, all_hold, reached, passed}
 use Rattle.image.proofs.Images.{accepted}
 use Rattle.image.proofs.Named.{names_same, names_before}
+use Rattle.image.proofs.Outcomes.{never_zero}
 use Rattle.columns.specs.NewColumn.{rd}
 use Rattle.columns.proofs.OneColumn.{column_only}
 use Rattle.session.specs.declared.Session.{Session}
-use Rattle.session.specs.declared.Added.{Added}
+use Rattle.session.specs.declared.Addition.{Addition}
+use Rattle.session.specs.Answer.{Added, added}
 use Rattle.session.specs.Session.{most_added, session_words, count_rows, add_rows, AddAnswered, AddIs}
 
 -- a column of a session lies within its words
@@ -35,25 +38,20 @@ unfolding cells_before
 column_fits k h = before_mono k (most_added + 1) (omega arith)
 
 -- ---- what a refusal answers, and what success does
-module _ (b : List ℕ) (s : Session) (e : ℕ) (a : Added) where
-  pub refusal : (n r : ℕ) → n ≢ 0 → First (add_rows b s) n → Names (decode b) n r
-      → a ≡ record { session = s; firings = 0; rule = r; refusal = n; admitted = false } → AddIs b s e a
-  refusal n r z p q is = record {
-    refusal = subst⁻¹ (First (add_rows b s)) (ap (λ (t : Added). t.refusal) is) p;
-    rule = subst⁻¹ (λ (t : Added). Names (decode b) t.refusal t.rule) is q;
-    refused = λ _. record {
-      session = ap (λ (t : Added). t.session) is;
-      admitted = ap (λ (t : Added). t.admitted) is;
-      firings = ap (λ (t : Added). t.firings) is;
-    };
-    answered = λ y. absurd (z (ap (λ (t : Added). t.refusal) (sym is) ∙ y));
+module _ (b : List ℕ) (s : Session) (e : ℕ) where
+  pub refuses : (r : Refusal) → First (add_rows b s) (number_of r) → Names (decode b) (number_of r) (rule_of r) → AddIs b s e (added s (Err r))
+  refuses r p q = record {
+    refusal = p;
+    rule = q;
+    refused = λ _. record { session = refl; admitted = refl; firings = refl };
+    answered = λ z. absurd (never_zero r z);
   }
 
-  pub success : a.refusal ≡ 0 → a.rule ≡ 0 → First (add_rows b s) 0 → AddAnswered (decode b) s e a → AddIs b s e a
-  success z m p q = record {
-    refusal = subst⁻¹ (First (add_rows b s)) z p;
-    rule = names_before (omega arith) m;
-    refused = λ y. absurd (y z);
+  pub answers : (a : Addition) → First (add_rows b s) 0 → AddAnswered (decode b) s e (added s (Ok a)) → AddIs b s e (added s (Ok a))
+  answers a p q = record {
+    refusal = p;
+    rule = names_before (omega arith) refl;
+    refused = λ y. absurd (y refl);
     answered = λ _. q;
   }
 

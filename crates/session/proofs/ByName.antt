@@ -13,7 +13,7 @@ use Rattle.layout.specs.Layout.{decode}
 use Rattle.columns.specs.NewColumn.{rd, ColumnFilled}
 use Rattle.columns.proofs.OneColumn.{symbols_decide, symbols_fire, no_other_symbol}
 use Rattle.session.specs.declared.Session.{Session}
-use Rattle.session.specs.declared.Added.{Added}
+use Rattle.session.specs.Answer.{Added}
 use Rattle.session.specs.Session.{AddAnswered, AddIs}
 use Rattle.session.specs.Symbols.{SameSymbols, SameColumn}
 use Rattle.session.proofs.Adds.{image_accepted}

@@ -17,8 +17,7 @@ use Rattle.image.proofs.Flags.{rows_flagged, names_flagged}
 use Rattle.kernel.specs.Conclude.{hit, conclusions, leaf_conclusions}
 use Rattle.columns.specs.NewColumn.{cell_conclusions}
 use Rattle.session.specs.declared.Session.{Session}
-use Rattle.session.specs.declared.Added.{Added}
-use Rattle.session.specs.declared.TakenBack.{TakenBack}
+use Rattle.session.specs.Answer.{Added, TakenBack}
 use Rattle.session.specs.Session.{most_added, count_rows, AddAnswered, AddIs, take_back_rows, TakeBackIs}
 use Rattle.session.proofs.Adds.{image_accepted, room_left}
 

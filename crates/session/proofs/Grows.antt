@@ -22,15 +22,14 @@ use Rattle.image.specs.Image.{image_rows, event_rows}
 use Rattle.image.specs.Accepted.{Accepted}
 use Rattle.image.proofs.Refusals.{none, pass, first_only, past_zero}
 use Rattle.image.proofs.Images.{accepted_back}
-use Rattle.chart.specs.declared.Judged.{Judged}
+use Rattle.chart.specs.Answer.{Judged}
 use Rattle.columns.specs.Fill.{Columns, ones_to, TopHas}
 use Rattle.columns.specs.NewColumn.{ColumnFilled}
 use Rattle.chart.specs.Judge.{chart_rows, Answered, JudgeIs}
 use Rattle.columns.proofs.Fills.{columns_start, columns_along, columns_step}
 use Rattle.chart.proofs.Judges.{answer, shows_only, chart_only}
 use Rattle.session.specs.declared.Session.{Session}
-use Rattle.session.specs.declared.Added.{Added}
-use Rattle.session.specs.declared.TakenBack.{TakenBack}
+use Rattle.session.specs.Answer.{Added, TakenBack}
 use Rattle.session.specs.Session.{most_added, session_words, no_events, AddAnswered, AddIs, TakeBackAnswered, TakeBackIs}
 use Rattle.session.specs.Grown.{◌then◌, Grown, begun, added, AsJudged, Growing}
 use Rattle.session.proofs.Adds.{column_fits, image_accepted, room_left, session_eq}

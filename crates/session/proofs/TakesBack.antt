@@ -1,34 +1,29 @@
 -- Laws of `TakeBackIs`: a refusal and success; and only one outcome meets the record, every word of the session too.
 -- Assumes nothing.
-use mathlib.Core.Path.{◌≡◌, sym, ap, ◌∙◌}
+use mathlib.Core.Path.{◌≡◌, refl, sym, ◌∙◌}
 use Prim.Native.Nat.{ℕ, ◌≤◌, ◌<◌}
 use native.Mathlib.Decide.{ℕ_discrete}
 use native.Mathlib.Omega.{arith}
 use lib.ListN.{get_or}
 use lib.Seq.{ext_get_or}
+use Rattle.std.specs.declared.result.Result.TheVariants.{Ok, Err}
 use Rattle.bits.proofs.Frames.{around}
 use Rattle.derivation.specs.Chart.{cell_at}
+use Rattle.image.specs.declared.numbered.Refusal.TheVariants.{SessionEmpty}
 use Rattle.image.proofs.Refusals.{first_only, none, fail, pass}
+use Rattle.image.proofs.Outcomes.{never_zero}
 use Rattle.session.specs.declared.Session.{Session}
-use Rattle.session.specs.declared.TakenBack.{TakenBack}
+use Rattle.session.specs.Answer.{TakenBack, taken_back}
 use Rattle.session.specs.Session.{most_added, TakeBackAnswered, TakeBackIs}
 use Rattle.session.proofs.Adds.{session_eq}
 
 -- ---- what a refusal answers, and what success does
-module _ (s : Session) (t : TakenBack) where
-  pub refusal : ((0 < s.count) × (s.count ≤ most_added) → ⊥) → t ≡ record { session = s; refusal = 18 } → TakeBackIs s t
-  refusal out is = record {
-    refusal = rw (ap (λ (u : TakenBack). u.refusal) is) (fail out);
-    refused = λ _. ap (λ (u : TakenBack). u.session) is;
-    answered = λ z. absurd (omega (arith, z, ap (λ (u : TakenBack). u.refusal) is));
-  }
+module _ (s : Session) where
+  pub refuses : ((0 < s.count) × (s.count ≤ most_added) → ⊥) → TakeBackIs s (taken_back s (Err SessionEmpty))
+  refuses out = record { refusal = fail out; refused = λ _. refl; answered = λ z. absurd (never_zero SessionEmpty z) }
 
-  pub success : 0 < s.count → s.count ≤ most_added → t.refusal ≡ 0 → TakeBackAnswered s t → TakeBackIs s t
-  success some few n is = record {
-    refusal = rw n (pass (some, few) none);
-    refused = λ y. absurd (y n);
-    answered = λ _. is;
-  }
+  pub answers : (t : Session) → 0 < s.count → s.count ≤ most_added → TakeBackAnswered s (taken_back s (Ok t)) → TakeBackIs s (taken_back s (Ok t))
+  answers t some few is = record { refusal = pass (some, few) none; refused = λ y. absurd (y refl); answered = λ _. is }
 
 -- ---- one outcome only
 taken_eq : (t u : TakenBack) → t.session ≡ u.session → t.refusal ≡ u.refusal → t ≡ u

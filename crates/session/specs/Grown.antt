@@ -3,11 +3,10 @@
 -- Assumes nothing.
 use Rattle.std.specs.Prelude.{◌≡◌, List, [], ◌∷◌, ◌++◌, ℕ, ◌+◌, ◌≤◌, ◌<◌, length, get_or}
 use Rattle.derivation.specs.Chart.{cells}
-use Rattle.chart.specs.declared.Judged.{Judged}
+use Rattle.chart.specs.Answer.{Judged}
 use Rattle.chart.specs.Judge.{JudgeIs}
 use Rattle.session.specs.declared.Session.{Session}
-use Rattle.session.specs.declared.Added.{Added}
-use Rattle.session.specs.declared.TakenBack.{TakenBack}
+use Rattle.session.specs.Answer.{Added, TakenBack}
 use Rattle.session.specs.Session.{no_events, AddIs, TakeBackIs}
 
 infixl 20 ◌then◌

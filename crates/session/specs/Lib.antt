@@ -1,3 +1,4 @@
+pub mod Answer
 pub mod Session
 pub mod Grown
 pub mod Symbols

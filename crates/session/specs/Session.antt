@@ -11,8 +11,7 @@ use Rattle.image.specs.Refusal.{Row, ◌unless◌, First}
 use Rattle.image.specs.Image.{image_rows, Names}
 use Rattle.columns.specs.NewColumn.{rd, ColumnFilled}
 use Rattle.session.specs.declared.Session.{Session}
-use Rattle.session.specs.declared.Added.{Added}
-use Rattle.session.specs.declared.TakenBack.{TakenBack}
+use Rattle.session.specs.Answer.{Added, TakenBack}
 
 -- the most events of a session, and the words of their chart
 abbrev pub most_added : ℕ

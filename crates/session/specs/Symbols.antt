@@ -5,7 +5,7 @@ use Rattle.bits.specs.Bit.{bit}
 use Rattle.derivation.specs.Grammar.{Grammar}
 use Rattle.columns.specs.NewColumn.{rd}
 use Rattle.session.specs.declared.Session.{Session}
-use Rattle.session.specs.declared.Added.{Added}
+use Rattle.session.specs.Answer.{Added}
 
 -- s and t have as many events, and their columns hold the same symbols of g
 pub record SameSymbols (g : Grammar) (s t : Session) : Type 0 where

@@ -2,8 +2,11 @@
 // back.
 #![tactic(auto)]
 
-ghost use Rattle.std.specs.Prelude.{◌≡◌, false};
+ghost use Rattle.std.specs.Prelude.{◌≡◌};
+ghost use Rattle.session.specs.Answer.{added, taken_back};
 ghost use Rattle.session.specs.Session.{no_events, AddIs, TakeBackIs};
+
+use image::Refusal;
 
 // The most events of a session, and the words of their chart.
 pub const MOST: u64 = 32;
@@ -16,22 +19,12 @@ pub struct Session {
     pub count: u64,
 }
 
-// What adding answers: a refusal with zeros and the session as it was, or 0 with the session after the event, the verdict so far and the firings
-// of the event's column. The rule is that of 6 and 7, else 0.
+// What adding answers: the session after the event, the firings of the event's column, and the verdict so far.
 #[derive(Clone, Copy)]
-pub struct Added {
+pub struct Addition {
     pub session: Session,
     pub firings: u64,
-    pub rule: u16,
-    pub refusal: u8,
     pub admitted: bool,
-}
-
-// What taking back answers: a refusal with the session as it was, or 0 with the session before its last event.
-#[derive(Clone, Copy)]
-pub struct TakenBack {
-    pub session: Session,
-    pub refusal: u8,
 }
 
 // The session without events.
@@ -44,78 +37,36 @@ pub fn begin() -> Session
     }
 }
 
-fn refused(session: Session, refusal: u8, rule: u16) -> Added
-    ensures { result ≡ record { session = session; firings = 0; rule = rule; refusal = refusal; admitted = false } }
-{
-    Added {
-        session: session,
-        firings: 0,
-        rule: rule,
-        refusal,
-        admitted: false,
-    }
-}
-
 // Adds an event: the refusals of the image and then 17, or one column more.
-pub fn add(image: &[u8], session: Session, event: u16) -> Added
-    ensures { AddIs image.now session event result }
+pub fn add(image: &[u8], session: Session, event: u16) -> Result<Addition, Refusal>
+    ensures { AddIs image.now session event (added session result) }
 {
-    let tested = image::test_image(image);
-    let early = tested.refusal;
-    if early != 0 {
-        return refused(session, early, tested.rule);
+    let grammar = image::test_image(image)?;
+    if session.count >= MOST {
+        return Err(Refusal::SessionFull);
     }
-    let count = session.count;
-    if count >= MOST {
-        return refused(session, 17, 0);
-    }
-    let mut words = session.chart;
-    let q = count as usize;
-    let k = q + 1;
-    let firings = columns::fill_one(image, event as usize, &mut words, q);
-    let admitted = chart::top_has(image, &words, k);
-    Added {
-        session: Session {
-            chart: words,
-            count: k as u64,
-        },
-        firings: firings,
-        rule: 0,
-        refusal: 0,
-        admitted: admitted,
-    }
-}
-
-fn kept(session: Session) -> TakenBack
-    ensures { result ≡ record { session = session; refusal = 18 } }
-{
-    TakenBack {
-        session: session,
-        refusal: 18,
-    }
+    let mut after = session;
+    let q = session.count as usize;
+    let firings = columns::fill_one(grammar, event as usize, &mut after.chart, q);
+    after.count += 1;
+    let admitted = chart::top_has(grammar.bytes, &after.chart, q + 1);
+    Ok(Addition {
+        session: after,
+        firings,
+        admitted,
+    })
 }
 
 // Takes the last event back: 18, or the session with its column cleared.
-pub fn take_back(session: Session) -> TakenBack
-    ensures { TakeBackIs session result }
+pub fn take_back(session: Session) -> Result<Session, Refusal>
+    ensures { TakeBackIs session (taken_back session result) }
 {
-    let count = session.count;
-    if count == 0 {
-        return kept(session);
+    if session.count == 0 || session.count > MOST {
+        return Err(Refusal::SessionEmpty);
     }
-    if count > MOST {
-        return kept(session);
-    }
-    let mut words = session.chart;
-    let k = count as usize;
-    let first = derivation::cell_at(0, k);
-    columns::clear_cells(&mut words, first, k);
-    let left = count - 1;
-    TakenBack {
-        session: Session {
-            chart: words,
-            count: left,
-        },
-        refusal: 0,
-    }
+    let mut before = session;
+    let k = session.count as usize;
+    columns::clear_cells(&mut before.chart, derivation::cell_at(0, k), k);
+    before.count -= 1;
+    Ok(before)
 }

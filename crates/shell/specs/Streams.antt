@@ -1,7 +1,12 @@
 -- Promised: what the program reads of a file and what it writes to its two streams, where their bytes are known.
 -- Assumes nothing.
-use Rattle.std.specs.Prelude.{◌≡◌, ℕ, ◌<◌, Bool, true, false, List, Option, Some, None, ◌⊎◌, ◌++◌, [], ◌∷◌, length, take, codes}
+use Rattle.std.specs.Prelude.{◌≡◌, ℕ, ◌<◌, Bool, true, false, List, Option, Some, None, Result, Ok, Err, ◌⊎◌, ◌++◌, [], ◌∷◌, length, take, codes}
 use Rattle.std.specs.Io.KnownBytes.{Keeps, Appends, Consumes, IsAtEnd}
+
+-- how many bytes were read, be it that every read went well or that one failed
+abbrev pub read_len : Result ℕ ℕ → ℕ
+read_len (Ok n) = n
+read_len (Err n) = n
 
 -- bs is read of a file from its front, into so much room, and file' is the file behind it: all of it where the reads went well and room is left;
 -- and of a file that could not be opened nothing is read well

@@ -2,7 +2,7 @@
 -- Assumes nothing.
 use Prim.Native.Nat.{ℕ, ◌+◌, ◌≤◌, ◌<◌}
 use native.Mathlib.Omega.{arith}
-use native.Mathlib.Nat.{mul-one, mul-zero, lt_of_lt_of_le}
+use native.Mathlib.Nat.{mul-one, mul-zero, lt_of_lt_of_le, le_trans}
 use native.Mathlib.Decide.{ℕ_discrete}
 use mathlib.Core.Path.{◌≡◌, refl, sym, ap, ◌∙◌}
 use mathlib.Core.List.{List}
@@ -15,9 +15,12 @@ use Rattle.derivation.specs.Derivations.{count}
 use Rattle.derivation.proofs.Counts.{by_event, by_split, by_pair, count_one, count_more}
 use Rattle.derivation.specs.Sound.{Sound}
 use Rattle.derivation.proofs.Sound.{pair_fits_at}
+use Rattle.lookup.specs.declared.Pair.{Pair}
+use Rattle.lookup.specs.Rule.{PairIs}
 use Rattle.table.specs.Table.{held}
-use Rattle.table.specs.Fill.{leaf_adds, split_adds, pair_adds, Right, Done, CountsIn}
+use Rattle.table.specs.Fill.{leaf_adds, split_adds, pair_adds, InReach, Right, Done, CountsIn}
 use Rattle.table.proofs.Held.{held_mul, held_once, held_sum, held_between}
+use Rattle.table.proofs.Slots.{words_on}
 use Rattle.table.proofs.Cells.{pair_adds_is, pair_other}
 
 pub leaf_counted : (g : Grammar) (w : List ℕ) (A i : ℕ) → i < length w → sum (event_rule_count g) (leaf_adds g (get_or w i 0) A) ≡ count g w A i (i + 1)
@@ -40,6 +43,18 @@ ready_in g w t i k f h = record {
   first = λ A j a b c. f.at A i j a b (omega arith);
   second = λ A j a b c. f.at A j k a c h;
 }
+
+-- the words that the splits of i to k need for the two symbols of a pair rule
+pub reached : (g : Grammar) (w t : List ℕ) (N b i k : ℕ) (p : Pair) → N ≡ g.symbols → CountsIn g w t → PairIs g b p → i < k → k ≤ length w → k < 65536
+    → InReach t N p.left p.right i k
+reached g w t N b i k p n c a l h few = rw n (record {
+  symbols = a.few;
+  left = a.left_fits;
+  right = a.right_fits;
+  some = l;
+  few = few;
+  fits = le_trans (words_on g.symbols k (length w) h) c.fits;
+})
 
 module _ (g : Grammar) (ok : Sound g) (w t : List ℕ) (i k : ℕ) (r : Ready g w t i k) where
   pub split_counted : (A q j : ℕ) → q < pair_rule_count g → (pair_rule g q).symbol ≡ A → i < j → j < k

@@ -1,12 +1,17 @@
 -- What the splits of a set add up to, visited one by one; and the set of the words that are not 0, word by word.
 -- Assumes nothing.
-use mathlib.Core.Path.{◌≡◌, sym, ap, ◌∙◌}
+use mathlib.Core.Path.{◌≡◌, refl, sym, ap, ◌∙◌}
+use mathlib.Core.Bool.{not}
 use mathlib.Core.Logic.{⊎_elim}
 use mathlib.Core.List.{List}
-use Prim.Native.Nat.{ℕ, zero, suc, ◌+◌, ◌*◌, ◌^◌, ◌≤◌, ◌<◌, min, max}
+use Prim.Native.Nat.{ℕ, zero, suc, ◌+◌, ◌-◌, ◌*◌, ◌^◌, ◌≤◌, ◌<◌, min, max}
 use native.Mathlib.Nat.{le_trans, eq-or-lt_of_le}
 use native.Mathlib.Omega.{arith}
-use lib.ListN.{get_or}
+use lib.ListN.{length, get_or, take, drop}
+use lib.Dec.{eqb}
+use borrow.Author.Tests.{ne_eqb}
+use mir.Val.{bool_byte}
+use Rattle.std.proofs.lemmas.List.{places}
 use lib.Bits.{bit_or}
 use Rattle.bits.specs.Truth.{same}
 use Rattle.bits.specs.Sum.{sum}
@@ -70,5 +75,14 @@ module _ (t : List ℕ) (base : ℕ) where
       with_bit : (A : ℕ) → bit (bit_or w (hit * 2 ^ n)) A ≡ max (bit w A) (hit * same n A)
       with_bit A = bit_or_is w (hit * 2 ^ n) A ∙ ap (max (bit w A)) (bit_shift hit n A (omega (arith, e)))
 
-  pub gathered_done : (n w : ℕ) → Gathered n w → Nonzero t base n w
-  gathered_done n w g = record { at = g.at }
+-- a word that is not 0, as the code asks
+pub some_is : (x : ℕ) → bool_byte (not (eqb x 0)) ≡ min 1 x
+some_is zero = refl
+some_is (suc x) = rw (ne_eqb (suc x) 0 (λ e. omega arith)) (omega arith)
+
+-- those of a part of the table
+pub nonzero_part : (t : List ℕ) (base n w : ℕ) → base + n ≤ length t → Nonzero (take (base + n - base) (drop base t)) 0 (length (take (base + n - base) (drop base t))) w → Nonzero t base n w
+nonzero_part t base n w fits z =
+    let long : length (take (base + n - base) (drop base t)) ≡ n = grind (arith, places) in
+    let word : (A : ℕ) → A < n → get_or (take (base + n - base) (drop base t)) (0 + A) 0 ≡ get_or t (base + A) 0 = λ A l. grind (arith, places) in
+    record { at = λ A l. z.at A (rw long l) ∙ ap (min 1) (word A l) }

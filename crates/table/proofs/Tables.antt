@@ -62,21 +62,7 @@ module _ (g : Grammar) (w : List ℕ) where
     ];
   }
 
-  pub column_start : (t : List ℕ) (k : ℕ) → Done g w t 0 k → Done g w t (k + 1) (k + 1)
-  column_start t k d = record {
-    at = λ A a b s l h low. elim (ℕ_discrete b (k + 1)) [
-      | yes e ↦ let m = low e in absurd (omega arith)
-      | no n ↦ d.at A a b s l (omega arith) (λ e. omega arith)
-    ];
-  }
-
-  pub done_none : (t : List ℕ) → Done g w t 0 0
-  done_none t = record { at = λ A a b s l h low. absurd (omega arith) }
-
   -- ---- the whole
-  pub filled : (old t : List ℕ) → Done g w t 0 (length w) → Framed old t 0 (table_words g.symbols (length w)) → Filled g w old t
-  filled old t d k = record { frame = k; counts = λ A i k s l h. d.at A i k s l h (λ e. omega arith) }
-
   pub counts_in : (old t : List ℕ) → table_words g.symbols (length w) ≤ length old → Filled g w old t → CountsIn g w t
   counts_in old t h f = record { fits = rw f.frame.long h; at = f.counts }
 

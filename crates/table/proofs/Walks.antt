@@ -1,6 +1,6 @@
 -- One split after the other: where the two parts' words stand, and the sum so far.
 -- Assumes nothing.
-use mathlib.Core.Path.{◌≡◌, sym, ap, ◌∙◌}
+use mathlib.Core.Path.{◌≡◌, sym}
 use mathlib.Core.List.{List}
 use Prim.Native.Nat.{ℕ, ◌+◌, ◌*◌, ◌≤◌, ◌<◌}
 use native.Mathlib.Nat.{le_refl, le_of_lt, mul-le-mul, le_trans, lt_of_lt_of_le}
@@ -62,7 +62,6 @@ module _ (t : List ℕ) (N B C i k : ℕ) where
     pub record Small : Type 0 where
       pub next_first : first + step < 2 * 64 * 4294967296
       pub next_second : j < k → second + N < 2 * 64 * 4294967296
-      pub next_step : step + N < 2 * 65536 * 64
       pub sum : total ≤ 65536 * limit
 
     pub small : Small
@@ -74,7 +73,6 @@ module _ (t : List ℕ) (N B C i k : ℕ) where
         record {
           next_first = omega arith;
           next_second = λ h. let d = second_in h in omega arith;
-          next_step = omega arith;
           sum = total_small;
         }
 
@@ -88,9 +86,3 @@ module _ (t : List ℕ) (N B C i k : ℕ) where
       stride = rw v.stride (omega arith);
       sum = rw (between_more i j (split_adds t N B C i k) v.low, ← v.sum, ← v.left, ← v.right, ← e);
     }
-
-  pub walk_done : (first second step total j : ℕ) → Walk first second step total j → k ≤ j → total ≡ between i k (split_adds t N B C i k)
-  walk_done first second step total j v h =
-      let a = v.high in
-      let e : j ≡ k = omega arith in
-      v.sum ∙ ap (λ (x : ℕ). between i x (split_adds t N B C i k)) e

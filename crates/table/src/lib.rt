@@ -1,19 +1,22 @@
 // The count table: how many derivations each symbol has over each stretch, each cell from the cells of the shorter stretches inside it.
 #![tactic(auto)]
 
+mod counts; // a record with its counts
 pub mod numbers; // numbers held at the limit
 mod splits; // the words of a table, and what they say of a stretch in two parts
 mod fill; // cells and columns
 
 ghost use Rattle.std.specs.Prelude.{◌≡◌, true, ◌≤◌, ◌<◌, length, get_or};
 ghost use Rattle.derivation.specs.Derivations.{readings};
-ghost use Rattle.layout.specs.Layout.{decode};
-ghost use Rattle.image.specs.Accepted.{Accepted};
+ghost use Rattle.image.specs.Shown.{shown};
 ghost use Rattle.table.specs.Table.{held, slot_of, table_words, Filled};
-ghost use Rattle.table.specs.Fill.{split_adds, InReach, CountsIn};
+ghost use Rattle.table.specs.Fill.{split_adds, InReach};
+
+pub use counts::Counts;
+use image::Grammar;
 
 // The largest number that a word of the table shows.
-pub const LIMIT: u32 = 4294967295;
+pub const LIMIT: u32 = u32::MAX;
 
 // How many words the table of a record of n events needs.
 pub fn words_needed(symbols: usize, n: usize) -> usize
@@ -27,26 +30,21 @@ pub fn words_needed(symbols: usize, n: usize) -> usize
 fn marks_pay(n: usize, pairs: usize) -> bool
     ensures { result ≡ true → n ≤ 96 }
 {
-    if pairs < 4 {
-        return false;
-    }
-    marks::pay(n)
+    pairs >= 4 && marks::pay(n)
 }
 
 // Fills the table of a record, column after column, with or without marks.
-pub fn fill_table(image: &[u8], events: &[u16], table: &mut [u32])
-    requires accepted { Accepted image.now }
-    requires events_len_bound { (length events.now < 65536) × (table_words (decode image.now).symbols (length events.now) ≤ length table.old) }
-    ensures { Filled (decode image.now) events.now table.old table.new }
+pub fn fill_table(grammar: Grammar<'_>, events: &[u16], table: &mut [u32])
+    requires events_len_bound { (length events.now < 65536) × (table_words (shown grammar).symbols (length events.now) ≤ length table.old) }
+    ensures { Filled (shown grammar.entry) events.now table.old table.new }
 {
-    let pairs = layout::pair_count(image);
-    if marks_pay(events.len(), pairs) {
+    if marks_pay(events.len(), grammar.pair_count()) {
         let mut lefts = [0u64; marks::LEFTS];
-        fill::fill_columns(image, events, table, &mut lefts);
-        return;
+        fill::fill_columns(grammar, events, table, &mut lefts);
+    } else {
+        let mut none = [0u64; 1];
+        fill::fill_columns(grammar, events, table, &mut none);
     }
-    let mut none = [0u64; 1];
-    fill::fill_columns(image, events, table, &mut none);
 }
 
 // The word for a symbol over i to k.
@@ -54,8 +52,7 @@ pub fn word_of(table: &[u32], symbols: usize, symbol: usize, i: usize, k: usize)
     requires { (symbols ≤ 64) × (symbol < symbols) × (i < k) × (k < 65536) × (table_words symbols k ≤ length table.now) }
     ensures { result ≡ get_or table.now (slot_of symbols symbol i k) 0 }
 {
-    let at = splits::slot(symbols, symbol, i, k);
-    table[at]
+    table[splits::slot(symbols, symbol, i, k)]
 }
 
 // What two symbols add over i to k with the split j.
@@ -77,16 +74,18 @@ pub fn split_count(
 }
 
 // How many readings a record has, held at the limit: the word for symbol 0 over all of it, and for an empty record the flag.
-pub fn total_in(image: &[u8], events: &[u16], table: &[u32]) -> u32
-    requires accepted { Accepted image.now }
-    requires counts_in { CountsIn (decode image.now) events.now table.now × (length events.now < 65536) }
-    ensures { result ≡ held (length (readings (decode image.now) events.now)) }
+pub fn total_in(counts: Counts<'_>) -> u32
+    requires { length counts.events.now < 65536 }
+    ensures { result ≡ held (length (readings (shown counts.entry.grammar) counts.entry.events.now)) }
 {
-    let n = events.len();
-    if n == 0 {
-        let flag = layout::quiet_flag(image);
-        return flag as u32;
+    let Counts {
+        grammar,
+        events,
+        table,
+    } = counts;
+    if events.is_empty() {
+        u32::from(grammar.is_quiet())
+    } else {
+        word_of(table, grammar.symbol_count(), 0, 0, events.len())
     }
-    let symbols = layout::symbol_count(image);
-    word_of(table, symbols, 0, 0, n)
 }

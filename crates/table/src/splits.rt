@@ -34,11 +34,8 @@ fn sum_set(
     ensures { (result ≡ sum 64 (λ x. bit splits x * split_adds table.now symbols left right i k (from + x))) × (result ≤ 64 * limit) }
 {
     let mut total: u64 = 0;
-    let mut rest = splits;
-    while rest != 0 {
-        let x = bits::first_bit(rest);
+    for x in bits::members(splits) {
         total += split_count(table, symbols, left, right, i, k, from + x) as u64;
-        rest = bits::without(rest, x);
     }
     total
 }
@@ -100,11 +97,9 @@ pub fn sum_splits(
     requires parts { InUse lefts.now → Parts table.now symbols lefts.now rights.now i k }
     ensures { result ≡ held (between i k (split_adds table.now symbols left right i k)) }
 {
-    if crowded {
-        return sum_all(table, symbols, left, right, i, k);
+    if crowded || lefts.len() < marks::LEFTS {
+        sum_all(table, symbols, left, right, i, k)
+    } else {
+        sum_met(table, lefts, rights, symbols, left, right, i, k)
     }
-    if lefts.len() < marks::LEFTS {
-        return sum_all(table, symbols, left, right, i, k);
-    }
-    sum_met(table, lefts, rights, symbols, left, right, i, k)
 }

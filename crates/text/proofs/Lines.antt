@@ -4,7 +4,6 @@ use Prim.Native.Nat.{ℕ, ◌+◌, ◌<◌}
 use mathlib.Core.Path.{◌≡◌, refl}
 use mathlib.Core.List.{List, [], ◌∷◌, ◌++◌}
 use native.Mathlib.Numerals.{add-one}
-use native.Mathlib.Nat.{not-suc-le-zero}
 use native.Mathlib.Omega.{arith}
 use lib.ListN.{length, drop, get_or}
 use lib.Seq.{drop-cons, drop-length}
@@ -15,10 +14,9 @@ unfolding line
 line_none [] h = refl
 line_none (w ∷ ws) h = absurd (omega (arith, h))
 
-pub line_first : (ws : List ℕ) → 0 < length ws → line ws ≡ text (get_or ws 0 0) ++ more (drop 1 ws)
+pub line_first : (ws rest : List ℕ) (w : ℕ) → ws ≡ w ∷ rest → line ws ≡ text w ++ more rest
 unfolding line
-line_first [] h = absurd (not-suc-le-zero h)
-line_first (w ∷ ws) h = refl
+line_first ws rest w e = rw e
 
 pub more_next : (ws : List ℕ) (i : ℕ) → i < length ws → more (drop i ws) ≡ 32 ∷ (text (get_or ws i 0) ++ more (drop (i + 1) ws))
 unfolding more

@@ -21,12 +21,9 @@ pub fn put_bytes(out: &mut [u8], at: usize, src: &[u8]) -> usize
     ensures value { result ≡ at + length src.now }
     ensures put { Put src.now out.old at result out.new }
 {
-    let mut i: usize = 0;
-    while i < src.len() {
-        out[at + i] = src[i];
-        i += 1;
-    }
-    at + i
+    let end = at + src.len();
+    out[at..end].copy_from_slice(src);
+    end
 }
 
 // x in decimal from the place at on; answers the place behind it.
@@ -36,7 +33,7 @@ pub fn put_number(out: &mut [u8], at: usize, x: u32) -> usize
     ensures put { Put (text x) out.old at result out.new }
 {
     let mut digits = [0u8; 20];
-    let k = io::decimal(x as u64, &mut digits);
+    let k = io::decimal(u64::from(x), &mut digits);
     put_bytes(out, at, &digits[..k])
 }
 
@@ -46,7 +43,7 @@ pub fn put_word(out: &mut [u8], at: usize, x: u16) -> usize
     ensures upper_bound { result ≤ at + 5 }
     ensures put { Put (text x) out.old at result out.new }
 {
-    put_number(out, at, x as u32)
+    put_number(out, at, u32::from(x))
 }
 
 // A space and a word; answers the place behind them.
@@ -55,7 +52,7 @@ fn put_spaced(out: &mut [u8], at: usize, x: u16) -> usize
     ensures upper_bound { result ≤ at + 6 }
     ensures put { Put (32 ∷ text x) out.old at result out.new }
 {
-    let next = put_byte(out, at, 32);
+    let next = put_byte(out, at, b' ');
     put_word(out, next, x)
 }
 
@@ -65,23 +62,14 @@ pub fn put_line(out: &mut [u8], at: usize, words: &[u16]) -> usize
     ensures upper_bound { result ≤ at + 6 * length words.now + 1 }
     ensures put { Put (line words.now) out.old at result out.new }
 {
-    if words.len() == 0 {
-        return put_byte(out, at, 10);
+    let Some((first, others)) = words.split_first() else {
+        return put_byte(out, at, b'\n');
+    };
+    let mut end = put_word(out, at, *first);
+    for word in others {
+        end = put_spaced(out, end, *word);
     }
-    let mut end = put_word(out, at, words[0]);
-    let mut i: usize = 1;
-    while i < words.len() {
-        end = put_spaced(out, end, words[i]);
-        i += 1;
-    }
-    put_byte(out, end, 10)
-}
-
-// The word of two bytes.
-fn low_first(low: u8, high: u8) -> u16
-    ensures { result ≡ low + 256 * high }
-{
-    low as u16 + 256 * (high as u16)
+    put_byte(out, end, b'\n')
 }
 
 // The words that the bytes show, at the start of out, whose rest stays as it is; answers how many.
@@ -90,13 +78,9 @@ pub fn read_words(bytes: &[u8], out: &mut [u16]) -> usize
     ensures value { result ≡ length bytes.now / 2 }
     ensures out_after { out.new ≡ words bytes.now ++ drop result out.old }
 {
-    let n = bytes.len() / 2;
-    let mut i: usize = 0;
-    while i < n {
-        let low = bytes[2 * i];
-        let high = bytes[2 * i + 1];
-        out[i] = low_first(low, high);
-        i += 1;
+    let (pairs, _) = bytes.as_chunks::<2>();
+    for (i, pair) in pairs.iter().enumerate() {
+        out[i] = u16::from_le_bytes(*pair);
     }
-    n
+    pairs.len()
 }

@@ -1,14 +1,12 @@
--- Rules of one kind rise, so what stands before one with a lesser symbol has one, too; and rules of other symbols add nothing.
+-- The rules of each kind rise; and rules of other symbols than that of a word add nothing to it.
 -- Assumes nothing.
-use Prim.Native.Nat.{ℕ, ◌+◌, ◌-◌, ◌≤◌, ◌<◌}
-use native.Mathlib.Nat.{lt_of_le_of_lt}
-use native.Mathlib.Decide.{ℕ_discrete}
+use Prim.Native.Nat.{ℕ, ◌+◌, ◌-◌}
 use native.Mathlib.Omega.{arith}
 use mathlib.Core.Path.{◌≡◌}
 use mathlib.Core.List.{List}
 use Rattle.bits.specs.Sum.{sum}
 use Rattle.bits.proofs.Sums.{sum_zero}
-use Rattle.derivation.specs.Grammar.{Grammar, event_rule_count, rule_total, rule_symbol}
+use Rattle.derivation.specs.Grammar.{Grammar, event_rule_count, rule_total}
 use Rattle.derivation.specs.Sound.{Sound}
 use Rattle.derivation.proofs.Sound.{leaf_symbol, leaf_symbols_rise, pair_symbols_rise, counted_symbol}
 use Rattle.table.specs.Fill.{leaf_adds, pair_adds}
@@ -22,18 +20,6 @@ module _ (g : Grammar) (o : Sound g) where
 
   pub pair_rules : OneKind g (event_rule_count g) (rule_total g)
   pair_rules = record { some = omega arith; known = omega arith; rising = pair_symbols_rise g o }
-
--- ---- the search
-module _ (g : Grammar) (A from to : ℕ) (k : OneKind g from to) where
-  pub passed_start : Passed g A from to from
-  passed_start = record { low = omega arith; high = k.some; before = λ c z l. absurd (omega arith) }
-
-  pub passed_on : (r : ℕ) → from ≤ r → r < to → rule_symbol g r < A → Passed g A from to (r + 1)
-  passed_on r z h p = record {
-    low = omega arith;
-    high = omega arith;
-    before = λ c y l. elim (ℕ_discrete c r) [ yes e ↦ rw e p | no e ↦ lt_of_le_of_lt (k.rising c r y (omega arith) h) p ];
-  }
 
 -- ---- what is passed adds nothing to a word of A
 module _ (g : Grammar) (A : ℕ) where

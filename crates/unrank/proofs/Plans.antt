@@ -30,7 +30,7 @@ use Rattle.table.proofs.Held.{exact, below, held_between}
 use Rattle.table.proofs.Cells.{leaf_adds_is, leaf_other, leaf_skips, pair_adds_is, pair_other}
 use Rattle.table.proofs.Adds.{leaf_counted, Ready, split_counted, pairs_counted, all_counted}
 use Rattle.unrank.specs.declared.choose.Choice.{Choice}
-use Rattle.unrank.specs.Choice.{InSplit, Chosen, ChosenLeaf, Planned}
+use Rattle.unrank.specs.Choice.{Chosen, ChosenLeaf, Planned}
 
 -- ---- over one event
 pub leaf_chosen : (g : Grammar) (w : List ℕ) (A i n r : ℕ) → i < length w → ChosenLeaf g (get_or w i 0) A n r → get_or (derivations g w A i (i + 1)) n none ≡ leaf r (i + 1)
@@ -66,10 +66,10 @@ module _ (g : Grammar) (ok : Sound g) (w t : List ℕ) (A i k n : ℕ) (r : Read
     q = d.pair
 
     abbrev j : ℕ
-    j = d.split
+    j = d.share.split
 
     abbrev m : ℕ
-    m = d.rest
+    m = d.share.rest
 
     chosen_small : m < limit
     chosen_small = omega (arith, c.place, c.split.place)
@@ -97,7 +97,7 @@ module _ (g : Grammar) (ok : Sound g) (w t : List ℕ) (A i k n : ℕ) (r : Read
       planned_some = rw e (held_some limit (lit< tt) _ _ m chosen_in chosen_small)
 
       pub planned : event_rule_count g + q < 65536
-          → Planned g w A i k n (record { rule = event_rule_count g + q; split = j; left = (pair_rule g q).left; first = m / x; right = (pair_rule g q).right; second = m % x })
+          → Planned g w A i k n (record { rule = event_rule_count g + q; split = j; left = record { symbol = (pair_rule g q).left; number = m / x }; right = record { symbol = (pair_rule g q).right; number = m % x } })
       planned fit =
           let B = (pair_rule g q).left in
           let C = (pair_rule g q).right in
@@ -129,9 +129,6 @@ module _ (g : Grammar) (t : List ℕ) (A i k n q rest : ℕ) (h : n ≡ sum q (p
   pub rule_skip : (v.symbol ≡ A → ⊥) → n ≡ sum (q + 1) (pair_adds g t i k A) + rest
   rule_skip e = omega (arith, sum_more q (pair_adds g t i k A), pair_other g t i k q A (λ z. e (p.symbol ∙ z)))
 
-  pub rule_found : (j m : ℕ) → q < pair_rule_count g → v.symbol ≡ A → InSplit t N v.left v.right i k rest j m → Chosen g t A i k n (record { pair = q; split = j; rest = m })
-  rule_found j m known e f = record { known = known; symbol = sym p.symbol ∙ e; o = rest; place = h; split = rw (en, p.left, p.right) at f }
-
 module _ (g : Grammar) (x A n r rest : ℕ) (h : n ≡ sum r (leaf_adds g x A) + rest) where
   pub leaf_past : (ok : Bool) → Decides ok (Turns g r A x) → ok ≡ true → (rest ≡ 0 → ⊥) → n ≡ sum (r + 1) (leaf_adds g x A) + (rest - 1)
   leaf_past ok d e z =
@@ -146,9 +143,6 @@ module _ (g : Grammar) (x A n r rest : ℕ) (h : n ≡ sum r (leaf_adds g x A) +
         | yes a ↦ leaf_skips g x r (λ b. f (record { symbol = a; event = b })) A
         | no a ↦ leaf_other g x r A a
       ]
-
-  pub leaf_found : (ok : Bool) → Decides ok (Turns g r A x) → ok ≡ true → rest ≡ 0 → r < event_rule_count g → ChosenLeaf g x A n r
-  leaf_found ok d e z l = let y = holds (Turns g r A x) ok e d in record { known = l; symbol = y.symbol; event = y.event; place = omega arith }
 
 pub leaf_some : (g : Grammar) (w : List ℕ) (A i k n x : ℕ) → k ≡ i + 1 → x ≡ get_or w i 0 → i < length w → n < count g w A i k → n < sum (event_rule_count g) (leaf_adds g x A)
 leaf_some g w A i k n x ek ex h l = rw (ex, leaf_counted g w A i h) (rw ek at l)

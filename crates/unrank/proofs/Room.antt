@@ -1,10 +1,10 @@
 -- What the room holds after the root is stored and after each of the two tails has come back: one step of the writer.
 -- Assumes nothing.
-use Prim.Native.Nat.{ℕ, suc, ◌+◌, ◌-◌, ◌*◌, ◌≤◌, ◌<◌}
+use Prim.Native.Nat.{ℕ, suc, ◌+◌, ◌-◌, ◌*◌, ◌<◌}
 use native.Mathlib.Omega.{arith}
 use mathlib.Core.Path.{◌≡◌, refl, ap, ◌∙◌}
 use mathlib.Core.List.{List, [], ◌∷◌, ◌++◌, append_assoc, append-nil}
-use lib.ListN.{length, get_or, take, drop, set, length-append, length-drop}
+use lib.ListN.{length, get_or, take, drop, length-append, length-drop}
 use lib.Seq.{take_all, drop-drop, drop-length, take_at, drop_at}
 use Rattle.derivation.specs.Grammar.{Grammar}
 use Rattle.derivation.specs.Tree.{leaf, script, script_word_count}
@@ -15,11 +15,6 @@ use Rattle.derivation.proofs.Exact.{derivations_sound}
 use Rattle.derivation.proofs.Scripts.{script_length}
 use Rattle.unrank.specs.declared.choose.Plan.{Plan}
 use Rattle.unrank.specs.Choice.{PlanOk, plan_tree}
-
-pub root_set : (l : List ℕ) (r j : ℕ) → 2 ≤ length l → set (set l 0 r) 1 j ≡ r ∷ j ∷ drop 2 l
-root_set [] r j h = absurd (omega arith)
-root_set (a ∷ []) r j h = absurd (omega arith)
-root_set (a ∷ b ∷ l) r j h = refl
 
 -- the part from a on, as it is lent; and l with y, what came back, in its place
 abbrev pub tail : ℕ → List ℕ → List ℕ
@@ -46,34 +41,11 @@ pub script_words_is : (g : Grammar) (w : List ℕ) (A i k n : ℕ) → n < count
 unfolding count
 script_words_is g w A i k n h = script_length g w A i k _ (derivations_sound g w A i k (in_get_d none (derivations g w A i k) n h))
 
--- sums, with each number of words a variable: where `words` shows its differences, `omega` has too many cases
-module _ (a b n : ℕ) (h : 2 + (a + b) ≤ n) where
-  two_on : suc (suc (n - 2)) ≡ n
-  two_on = omega arith
-
-  two_in : 2 ≤ n
-  two_in = omega arith
-
-  fits_one : a ≤ n - 2
-  fits_one = omega arith
-
-  one_on : suc (suc a) + (n - 2 - a) ≡ n
-  one_on = omega arith
-
-  one_in : 2 + a ≤ n
-  one_in = omega arith
-
-  fits_two : b ≤ n - (2 + a)
-  fits_two = omega arith
-
 head : (a x m : ℕ) → m ≡ 2 + a → x ≡ a → suc (suc x) ≡ m
 head a x m p q = omega arith
 
-filled : (a n : ℕ) → a ≤ n → a + (n - a) ≡ n
-filled a n h = omega arith
-
 module _ (g : Grammar) (w : List ℕ) (i k : ℕ) (q : Plan) (p : PlanOk g w i k q)
-    (room l : List ℕ) (e : l ≡ q.rule ∷ q.split ∷ drop 2 room) (fit : script_word_count (k - i) ≤ length room) where
+    (room l : List ℕ) (e : l ≡ q.rule ∷ q.split ∷ drop 2 room) where
   abbrev r : ℕ
   r = q.rule
 
@@ -81,60 +53,29 @@ module _ (g : Grammar) (w : List ℕ) (i k : ℕ) (q : Plan) (p : PlanOk g w i k
   j = q.split
 
   abbrev first : List ℕ
-  first = script (get_or (derivations g w q.left i j) q.first none)
+  first = script (get_or (derivations g w q.left.symbol i j) q.left.number none)
 
   abbrev second : List ℕ
-  second = script (get_or (derivations g w q.right j k) q.second none)
+  second = script (get_or (derivations g w q.right.symbol j k) q.right.number none)
 
   first_words_is : length first ≡ script_word_count (j - i)
-  first_words_is = script_words_is g w q.left i j q.first p.left_some
-
-  second_words : length second ≡ script_word_count (k - j)
-  second_words = script_words_is g w q.right j k q.second p.right_some
+  first_words_is = script_words_is g w q.left.symbol i j q.left.number p.left_some
 
   whole : script_word_count (k - i) ≡ 2 + (script_word_count (j - i) + script_word_count (k - j))
   whole = omega (arith, p.after, p.before)
-
-  room_fits : 2 + (script_word_count (j - i) + script_word_count (k - j)) ≤ length room
-  room_fits = rw (← whole) fit
-
-  pub l_length : length l ≡ length room
-  l_length = ap length e ∙ ap (λ (x : ℕ). suc (suc x)) (length-drop 2 room) ∙ two_on (script_word_count (j - i)) (script_word_count (k - j)) (length room) room_fits
-
-  pub fit_first : script_word_count (j - i) ≤ length (tail 2 l)
-  fit_first = rw (tail_length, l_length) (fits_one (script_word_count (j - i)) (script_word_count (k - j)) (length room) room_fits)
-
-  pub two_fits : 2 ≤ length l
-  two_fits = rw l_length (two_in (script_word_count (j - i)) (script_word_count (k - j)) (length room) room_fits)
 
   module _ (y : List ℕ) (d : y ≡ first ++ drop (script_word_count (j - i)) (tail 2 l)) where
     after : back 2 l y ≡ ((r ∷ j ∷ []) ++ first) ++ drop (script_word_count (j - i)) (drop 2 room)
     after = back_is 2 l (r ∷ j ∷ []) (drop 2 room) first y (script_word_count (j - i)) e refl d
 
-    pub after_length : length (back 2 l y) ≡ length room
-    after_length = ap length after ∙ simp (length-append, length-drop, first_words_is) (one_on (script_word_count (j - i)) (script_word_count (k - j)) (length room) room_fits)
-
     middle : 4 * (j - i) ≡ 2 + script_word_count (j - i)
     middle = omega (arith, p.after)
-
-    pub middle_fits : 4 * (j - i) ≤ length (back 2 l y)
-    middle_fits = rw (after_length, middle) (one_in (script_word_count (j - i)) (script_word_count (k - j)) (length room) room_fits)
-
-    pub fit_second : script_word_count (k - j) ≤ length (tail (4 * (j - i)) (back 2 l y))
-    fit_second = rw (tail_length, after_length, middle) (fits_two (script_word_count (j - i)) (script_word_count (k - j)) (length room) room_fits)
 
     module _ (x : List ℕ) (f : x ≡ second ++ drop (script_word_count (k - j)) (tail (4 * (j - i)) (back 2 l y))) where
       pub end : back (4 * (j - i)) (back 2 l y) x ≡ script (plan_tree g w i k q) ++ drop (script_word_count (k - i)) room
       unfolding script
       end = back_is (4 * (j - i)) (back 2 l y) ((r ∷ j ∷ []) ++ first) (drop (script_word_count (j - i)) (drop 2 room)) second x (script_word_count (k - j)) after (head (script_word_count (j - i)) (length first) (4 * (j - i)) middle first_words_is) f
           ∙ rw (drop-drop, drop-drop, whole)
-
-      plan_words : length (script (plan_tree g w i k q)) ≡ script_word_count (k - i)
-      unfolding script
-      plan_words = ap (λ (n : ℕ). suc (suc n)) (length-append first second) ∙ rw (first_words_is, second_words, whole) (omega arith)
-
-      pub end_length : length (back (4 * (j - i)) (back 2 l y) x) ≡ length room
-      end_length = ap length end ∙ simp (length-append, length-drop) (rw plan_words (filled (script_word_count (k - i)) (length room) fit))
 
 -- one event: the root is all
 pub leaf_end : (g : Grammar) (w : List ℕ) (A i k n r : ℕ) (room l : List ℕ) → k ≡ i + 1 → l ≡ r ∷ k ∷ drop 2 room

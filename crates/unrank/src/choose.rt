@@ -3,22 +3,23 @@ ghost use Rattle.std.specs.Prelude.{◌+◌, ◌≤◌, ◌<◌, length};
 ghost use Rattle.bits.specs.Sum.{sum};
 ghost use Rattle.derivation.specs.Derivations.{count as number};
 ghost use Rattle.derivation.specs.Grammar.{event_rule_count, pair_rule_count};
-ghost use Rattle.layout.specs.Layout.{decode};
-ghost use Rattle.image.specs.Accepted.{Accepted};
-ghost use Rattle.table.specs.Table.{limit, table_words};
-ghost use Rattle.table.specs.Fill.{pair_adds, leaf_adds, InReach, CountsIn};
+ghost use Rattle.image.specs.Shown.{shown};
+ghost use Rattle.table.specs.Table.{limit};
+ghost use Rattle.table.specs.Fill.{pair_adds, leaf_adds, InReach};
 ghost use Rattle.unrank.specs.Choice.{Picked, Chosen, ChosenLeaf, Planned};
 
 use super::begin::first_rule;
+use image::Grammar;
+use table::Counts;
 
-// The split in whose share a place falls, and the place in it; or how far past them all it is.
-#[derive(Clone, Copy)]
-pub struct Pick {
-    pub found: bool,
+// A split, and a place in its share.
+#[derive(Clone, Copy, Debug, PartialEq, Eq)]
+pub struct Share {
     pub split: usize,
     pub rest: u32,
 }
 
+// The split in whose share a place falls; or how far past them all it is.
 fn pick_split(
     table: &[u32],
     symbols: usize,
@@ -27,7 +28,7 @@ fn pick_split(
     i: usize,
     k: usize,
     rank: u32,
-) -> Pick
+) -> Result<Share, u32>
     requires { InReach table.now symbols left right i k }
     ensures { Picked table.now symbols left right i k rank result }
 {
@@ -35,124 +36,101 @@ fn pick_split(
     for j in i + 1..k {
         let share = table::split_count(table, symbols, left, right, i, k, j);
         if rest < share {
-            return Pick {
-                found: true,
-                split: j,
-                rest: rest,
-            };
+            return Ok(Share { split: j, rest });
         }
         rest -= share;
     }
-    Pick {
-        found: false,
-        split: 0,
-        rest: rest,
-    }
+    Err(rest)
 }
 
-// The pair rule in whose share a place falls, and there the split, and the place in its share.
-#[derive(Clone, Copy)]
+// The pair rule in whose share a place falls, and there the split.
+#[derive(Clone, Copy, Debug, PartialEq, Eq)]
 pub struct Choice {
     pub pair: usize,
-    pub split: usize,
-    pub rest: u32,
+    pub share: Share,
 }
 
-fn choose_pair(image: &[u8], table: &[u32], symbol: usize, i: usize, k: usize, rank: u32) -> Choice
-    requires accepted { Accepted image.now }
-    requires i_lt_k { (i < k) × (k < 65536) × (table_words (decode image.now).symbols k ≤ length table.now) }
-    requires rank_bound { rank < sum (pair_rule_count (decode image.now)) (pair_adds (decode image.now) table.now i k symbol) }
-    ensures { Chosen (decode image.now) table.now symbol i k rank result }
+fn choose_pair(counts: Counts<'_>, symbol: usize, i: usize, k: usize, rank: u32) -> Choice
+    requires i_lt_k { (i < k) × (k ≤ length counts.events.now) × (k < 65536) }
+    requires rank_bound { rank < sum (pair_rule_count (shown counts.grammar)) (pair_adds (shown counts.grammar) counts.table.now i k symbol) }
+    ensures { Chosen (shown counts.entry.grammar) counts.entry.table.now symbol i k rank result }
 {
-    let symbols = layout::symbol_count(image);
-    let leaves = layout::leaf_count(image);
-    let pairs = layout::pair_count(image);
-    let first = first_rule(image, leaves, leaves + pairs, symbol) - leaves;
+    let Counts { grammar, table, .. } = counts;
+    let symbols = grammar.symbol_count();
+    let leaves = grammar.leaf_count();
+    let pairs = grammar.pair_count();
+    let first = first_rule(grammar, leaves, leaves + pairs, symbol) - leaves;
     let mut rest = rank;
     for b in first..pairs {
-        let p = lookup::pair_of(image, leaves, b);
+        let p = lookup::pair_of(grammar, b);
         if p.symbol == symbol {
-            let s = pick_split(table, symbols, p.left, p.right, i, k, rest);
-            if s.found {
-                return Choice {
-                    pair: b,
-                    split: s.split,
-                    rest: s.rest,
-                };
+            match pick_split(table, symbols, p.left, p.right, i, k, rest) {
+                Ok(share) => return Choice { pair: b, share },
+                Err(past) => rest = past,
             }
-            rest = s.rest;
         }
     }
-    Choice {
-        pair: 0,
-        split: 0,
-        rest: 0,
-    }
+    unreachable!()
 }
 
 // The event rule that is place `rank` of the symbol's word over one event.
-pub fn choose_leaf(image: &[u8], event: usize, symbol: usize, rank: u32) -> usize
-    requires accepted { Accepted image.now }
-    requires rank_bound { rank < sum (event_rule_count (decode image.now)) (leaf_adds (decode image.now) event symbol) }
-    ensures { ChosenLeaf (decode image.now) event symbol rank result × (result < 65536) }
+pub fn choose_leaf(grammar: Grammar<'_>, event: usize, symbol: usize, rank: u32) -> usize
+    requires { rank < sum (event_rule_count (shown grammar)) (leaf_adds (shown grammar) event symbol) }
+    ensures { ChosenLeaf (shown grammar.entry) event symbol rank result × (result < 65536) }
 {
-    let leaves = layout::leaf_count(image);
-    let first = first_rule(image, 0, leaves, symbol);
+    let leaves = grammar.leaf_count();
+    let first = first_rule(grammar, 0, leaves, symbol);
     let mut rest = rank;
     for r in first..leaves {
-        if lookup::turns(image, r, symbol, event) {
+        if lookup::turns(grammar, r, symbol, event) {
             if rest == 0 {
                 return r;
             }
             rest -= 1;
         }
     }
-    0
+    unreachable!()
 }
 
-// The root of a derivation over two events or more, and the symbol and number of each of its parts.
-#[derive(Clone, Copy)]
+// Which derivation a part of another one is: its symbol, and its number among those of the symbol over its stretch.
+#[derive(Clone, Copy, Debug, PartialEq, Eq)]
+pub struct Part {
+    pub symbol: usize,
+    pub number: u32,
+}
+
+// The root of a derivation over two events or more, and its parts.
+#[derive(Clone, Copy, Debug, PartialEq, Eq)]
 pub struct Plan {
     pub rule: usize,
     pub split: usize,
-    pub left: usize,
-    pub first: u32,
-    pub right: usize,
-    pub second: u32,
+    pub left: Part,
+    pub right: Part,
 }
 
 // The plan of derivation number `rank` of the symbol over i to k.
-pub fn make_plan(
-    image: &[u8],
-    events: &[u16],
-    table: &[u32],
-    symbol: usize,
-    i: usize,
-    k: usize,
-    rank: u32,
-) -> Plan
-    requires accepted { Accepted image.now }
-    requires counts_in { CountsIn (decode image.now) events.now table.now }
-    requires i_bound { (i + 1 < k) × (k ≤ length events.now) × (k < 65536) }
-    requires rank_lt_limit { (rank < limit) × (rank < number (decode image.now) events.now symbol i k) }
-    ensures { Planned (decode image.now) events.now symbol i k rank result }
+pub fn make_plan(counts: Counts<'_>, symbol: usize, i: usize, k: usize, rank: u32) -> Plan
+    requires i_bound { (i + 1 < k) × (k ≤ length counts.events.now) × (k < 65536) }
+    requires rank_lt_limit { (rank < limit) × (rank < number (shown counts.grammar) counts.events.now symbol i k) }
+    ensures { Planned (shown counts.entry.grammar) counts.entry.events.now symbol i k rank result }
 {
-    let symbols = layout::symbol_count(image);
-    let leaves = layout::leaf_count(image);
-    let c = choose_pair(image, table, symbol, i, k, rank);
-    let split = c.split;
-    let rest = c.rest;
-    let rule = leaves + c.pair;
-    let p = lookup::pair_of(image, leaves, c.pair);
-    let count = table::word_of(table, symbols, p.right, split, k);
+    let Counts { grammar, table, .. } = counts;
+    let c = choose_pair(counts, symbol, i, k, rank);
+    let Share { split, rest } = c.share;
+    let p = lookup::pair_of(grammar, c.pair);
+    let count = table::word_of(table, grammar.symbol_count(), p.right, split, k);
     let first = rest / count;
     let second = rest % count;
     Plan {
-        rule: rule,
-        split: split,
-        left: p.left,
-        first: first,
-        right: p.right,
-        second: second,
+        rule: grammar.leaf_count() + c.pair,
+        split,
+        left: Part {
+            symbol: p.left,
+            number: first,
+        },
+        right: Part {
+            symbol: p.right,
+            number: second,
+        },
     }
 }

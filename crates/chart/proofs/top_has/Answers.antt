@@ -3,7 +3,7 @@ use native.Mathlib.Omega.{arith}
 use Rattle.derivation.proofs.Columns.{cell_within}
 use Rattle.chart.proofs.top_has.Goals as goal
 
-pub read_cell-top-requires : goal.read_cell-top-requires
-read_cell-top-requires c =
+pub read_cell-requires : goal.read_cell-requires
+read_cell-requires c =
     let n = c.args.n in
     omega (arith, cell_within n 0 n (omega arith) (omega arith))

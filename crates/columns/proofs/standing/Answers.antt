@@ -1,7 +1,10 @@
--- The symbols of one cell more go in, and none goes out.
-use native.Mathlib.Omega.{arith}
-use Rattle.columns.proofs.Pushes.{standing_more}
+-- What is or-ed together has the bits of each word.
+use Rattle.std.proofs.Common.{rules, ◌≡◌, bit_or}
+use Rattle.std.specs.List.{fold}
+use Rattle.columns.proofs.Pushes.{standing_all}
 use Rattle.columns.proofs.standing.Goals as goal
 
-pub loop-x-preserved : goal.loop-x-preserved
-loop-x-preserved c = (omega (arith, c.loop-x-test.true), standing_more _ _ _ _ _ c.read_cell-all.ensures c.loop-x.invariant.1)
+pub returns : goal.returns
+returns c =
+    let z : c.fold.result ≡ fold bit_or 0 c.args.words.now = search rules in
+    rw z (standing_all c.args.words.now)

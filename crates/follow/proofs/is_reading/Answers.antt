@@ -3,8 +3,7 @@ use mathlib.Core.Path.{sym, ◌∙◌}
 use Prim.Native.Nat.{◌<◌}
 use native.Mathlib.Omega.{arith}
 use lib.ListN.{length}
-use lib.Dec.{eqb}
-use Rattle.bits.proofs.Truths.{decides_as, decides_eq}
+use Rattle.bits.proofs.Truths.{decides_as}
 use Rattle.derivation.proofs.Readings.{reading_length, reading_of, of_reading, reading_quiet, quiet_reading}
 use Rattle.follow.proofs.is_reading.Goals as goal
 
@@ -13,7 +12,7 @@ returns-then-script-words c = λ s. c.if-script-words.true (reading_length _ _ _
 
 pub returns-then-n-eq0 : goal.returns-then-n-eq0
 returns-then-n-eq0 c = let l = c.if-script-words.false ∙ c.script_words-words.ensures in
-    decides_as (eqb c.quiet_flag.result 1) (reading_quiet _ _ c.if-n-eq0.true _ (omega arith)) (quiet_reading _ _ c.if-n-eq0.true _) (decides_eq c.quiet_flag.result 1 c.quiet_flag.ensures.0)
+    decides_as c.is_quiet.result (reading_quiet _ _ c.if-n-eq0.true _ (omega arith)) (quiet_reading _ _ c.if-n-eq0.true _) c.is_quiet.ensures
 
 pub returns : goal.returns
 returns c = let some : 0 < length c.args.events.now = omega (arith, c.if-n-eq0.false) in

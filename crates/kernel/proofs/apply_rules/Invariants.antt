@@ -1,11 +1,11 @@
--- The invariant: the places of the group before x are walked.
-use Prim.Native.Nat.{◌-◌, ◌≤◌}
-use Rattle.kernel.specs.Apply.{over}
+-- The invariant: the first rules of the group are walked, with at most 128 matches each.
+use Prim.Native.Nat.{ℕ, ◌+◌, ◌*◌, ◌≤◌}
+use Rattle.groups.specs.Group.{group_from}
+use Rattle.kernel.specs.Apply.{Tells}
 use Rattle.kernel.proofs.Applies.{Walk}
 use Rattle.kernel.proofs.apply_rules.Given as goal
 
-abbrev pub invariant-loop-x : goal.invariant-loop-x
-invariant-loop-x l = (l.initial.x ≤ l.x) × (l.x ≤ l.end) × (l.end ≤ 256) × Walk (over l.right) l.initial.x l.grouped l.initial.f l.f (l.x - l.initial.x)
-
-abbrev pub decreases-loop-x : goal.decreases-loop-x
-decreases-loop-x l = l.end - l.x
+abbrev pub invariant-loop-rule : goal.invariant-loop-rule
+invariant-loop-rule g l =
+    (l.f.count ≤ l.initial.f.count + l.rule-index * 128)
+    × ((m : ℕ → ℕ) → Tells (λ (x : ℕ). goal.F-post g l.matches x) m → Walk m (group_from l.grouped l.a) l.grouped l.initial.f l.f l.rule-index)

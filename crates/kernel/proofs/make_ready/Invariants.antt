@@ -1,10 +1,9 @@
--- The invariant: all wanted symbols but those of `rest` are ready.
-use Rattle.layout.specs.Layout.{decode}
+-- The invariant: all wanted symbols but those of the iterator are ready.
+use mathlib.Core.Path.{◌≡◌}
+use lib.ListN.{length}
+use Rattle.image.specs.Shown.{shown}
 use Rattle.kernel.proofs.Readies.{Made}
 use Rattle.kernel.proofs.make_ready.Given as goal
 
-abbrev pub invariant-loop-rest : goal.invariant-loop-rest
-invariant-loop-rest l = Made (decode l.image) l.right l.wanted l.rest l.made
-
-abbrev pub decreases-loop-rest : goal.decreases-loop-rest
-decreases-loop-rest l = l.rest
+abbrev pub invariant-loop-a : goal.invariant-loop-a
+invariant-loop-a l = (length l.made ≡ 64) × Made (shown l.grammar) l.right l.wanted l.a-iterator l.made

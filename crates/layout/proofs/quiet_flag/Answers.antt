@@ -3,12 +3,19 @@ use native.Mathlib.Omega.{arith}
 use mathlib.Core.Path.{sym, ◌∙◌}
 use Rattle.layout.proofs.Decoded.{quiet_byte, quiet_missing, quiet_none}
 use Rattle.layout.proofs.quiet_flag.Goals as goal
+use Rattle.layout.proofs.quiet_flag.Goals.{else-version-eq-FLAG_VERSION-via-then-version-eq-FLAG_VERSION+else-image-gt-HEADER_BYTES, else-version-eq-FLAG_VERSION-via-else-version-eq-FLAG_VERSION}
 
-pub returns-then-version-ne2 : goal.returns-then-version-ne2
-returns-then-version-ne2 c = (sym (quiet_none _ (λ e. c.if-version-ne2.true (c.version.ensures ∙ e))), omega arith)
+pub returns-then-image-gt-HEADER_BYTES : goal.returns-then-image-gt-HEADER_BYTES
+returns-then-image-gt-HEADER_BYTES c =
+    (c.byte_at.ensures.0 ∙ sym (quiet_byte _ (sym c.version.ensures ∙ c.if-version-eq-FLAG_VERSION.true)), c.byte_at.ensures.1)
 
-pub returns-then-image-eq-HEADER_BYTES : goal.returns-then-image-eq-HEADER_BYTES
-returns-then-image-eq-HEADER_BYTES c = (sym (quiet_missing _ (sym c.version.ensures ∙ c.if-version-ne2.false) c.if-image-eq-HEADER_BYTES.true), omega arith)
-
-pub returns : goal.returns
-returns c = (c.byte_at.ensures.0 ∙ sym (quiet_byte _ (sym c.version.ensures ∙ c.if-version-ne2.false)), c.byte_at.ensures.1)
+pub returns-else-version-eq-FLAG_VERSION : goal.returns-else-version-eq-FLAG_VERSION
+returns-else-version-eq-FLAG_VERSION c = (
+  sym (elim c.else-version-eq-FLAG_VERSION.branch [
+    | else-version-eq-FLAG_VERSION-via-then-version-eq-FLAG_VERSION+else-image-gt-HEADER_BYTES w ↦
+        quiet_missing c.args.image.now (sym c.version.ensures ∙ w.if-version-eq-FLAG_VERSION.true) (omega arith)
+    | else-version-eq-FLAG_VERSION-via-else-version-eq-FLAG_VERSION w ↦
+        quiet_none c.args.image.now (λ e. w.if-version-eq-FLAG_VERSION.false (c.version.ensures ∙ e))
+  ]),
+  omega arith,
+)

@@ -4,8 +4,8 @@ use mathlib.Core.Path.{sym, ◌∙◌}
 use Rattle.layout.proofs.Decoded.{rules_behind, rules_at_once}
 use Rattle.layout.proofs.rules_from.Goals as goal
 
-pub returns-then-version-eq2 : goal.returns-then-version-eq2
-returns-then-version-eq2 c = (sym (rules_behind _ (sym c.version.ensures ∙ c.if-version-eq2.true)), omega arith)
+pub returns-then-version-eq-FLAG_VERSION : goal.returns-then-version-eq-FLAG_VERSION
+returns-then-version-eq-FLAG_VERSION c = (sym (rules_behind _ (sym c.version.ensures ∙ c.if-version-eq-FLAG_VERSION.true)), omega arith)
 
-pub returns : goal.returns
-returns c = (sym (rules_at_once _ (λ e. c.if-version-eq2.false (c.version.ensures ∙ e))), omega arith)
+pub returns-else-version-eq-FLAG_VERSION : goal.returns-else-version-eq-FLAG_VERSION
+returns-else-version-eq-FLAG_VERSION c = (sym (rules_at_once _ (λ e. c.if-version-eq-FLAG_VERSION.false (c.version.ensures ∙ e))), omega arith)

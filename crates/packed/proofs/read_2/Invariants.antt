@@ -1,9 +1,8 @@
 -- The invariant: the first i words of out are the first i words of the bytes.
 use mathlib.Core.Path.{◌≡◌}
-use Prim.Native.Nat.{◌/◌, ◌≤◌}
 use lib.ListN.{length, take}
 use Rattle.packed.specs.Packed.{first_words}
 use Rattle.packed.proofs.read_2.Given as goal
 
 abbrev pub invariant-loop-i : goal.invariant-loop-i
-invariant-loop-i l = (l.i ≤ l.n) × (l.n ≡ length l.bytes / 2) × (length l.out ≡ length l.initial.out) × (take l.i l.out ≡ first_words 2 l.i l.bytes)
+invariant-loop-i l = (length l.out ≡ length l.initial.out) × (take l.i l.out ≡ first_words 2 l.i l.bytes)

@@ -1,9 +1,14 @@
 -- Past the refusals the table is filled, and by it the readings are counted.
-use Rattle.readings.proofs.Refuses.{count_ok}
+use mathlib.Core.Path.{refl}
 use Rattle.readings.proofs.count.Goals as goal
 
-pub fill_table-requires-clause-accepted : goal.fill_table-requires-clause-accepted
-fill_table-requires-clause-accepted c = (count_ok _ _ _ _ c.if-refusal-ne0.false c.count_refusal-early.ensures.refusal).image
-
-pub total_in-total-requires-clause-accepted : goal.total_in-total-requires-clause-accepted
-total_in-total-requires-clause-accepted c = (count_ok _ _ _ _ c.if-refusal-ne0.false c.count_refusal-early.ensures.refusal).image
+pub returns : goal.returns
+returns c =
+    let e = c.in_ok-grammar.ensures.bytes in
+    let p = c.in_ok-grammar.ensures.tested in
+    record {
+      refusal = p.refusal;
+      rule = p.rule;
+      refused = λ z. absurd (z refl);
+      answered = λ _. record { total = rw e at c.total_in.ensures; table = rw e at c.fill_table.ensures };
+    }

@@ -1,13 +1,8 @@
--- The first rule of each kind has no predecessor; every other rule compares with the one before it as their keys do.
+-- The first rule has no predecessor; every other rule compares with the one before it as their numbers do.
 use native.Mathlib.Omega.{arith}
 use Rattle.layout.specs.Layout.{decode}
-use Rattle.rules.proofs.Keys.{keys_rise, keys_fall}
+use Rattle.rules.proofs.Order.{rise}
 use Rattle.rules.proofs.rises.Goals as goal
 
-pub returns-then-before-own : goal.returns-then-before-own
-returns-then-before-own c = keys_rise (decode c.args.image.now) c.args.r (omega arith) (omega arith) c.requires.below
-    c.key_of-before.ensures c.key_of-own.ensures c.if-before-own.true
-
-pub returns : goal.returns
-returns c = keys_fall (decode c.args.image.now) c.args.r (omega arith) (omega arith) c.requires.below
-    c.key_of-before.ensures c.key_of-own.ensures c.if-before-own.false
+pub returns-else-r-eq0 : goal.returns-else-r-eq0
+returns-else-r-eq0 c = rw c.lt.ensures (rise (decode c.args.image.now) c.args.r (omega arith) c.requires.below _ _ c.rule_of.ensures c.rule_of-else-r-eq0.ensures)

@@ -4,27 +4,21 @@ use borrow.Author.Rules.{rules}
 use mathlib.Core.Path.{◌≡◌}
 use Prim.Native.Nat.{◌+◌, ◌≤◌}
 use lib.ListN.{length}
-use Rattle.image.proofs.Images.{tested_accepted}
 use Rattle.derivation.proofs.Columns.{cells_column, cells_more}
+use Rattle.image.proofs.Outcomes.{taken}
 use Rattle.session.proofs.Adds.{column_fits}
 use Rattle.session.proofs.add.Goals as goal
 
-pub fill_one-firings-requires-clause-accepted : goal.fill_one-firings-requires-clause-accepted
-fill_one-firings-requires-clause-accepted c = tested_accepted _ _ c.test_image-tested.ensures c.if-early-ne0.false
-
-pub fill_one-firings-requires-clause-q_bound : goal.fill_one-firings-requires-clause-q_bound
-fill_one-firings-requires-clause-q_bound c =
+pub fill_one-firings-requires : goal.fill_one-firings-requires
+fill_one-firings-requires c =
     let s = c.args.session in
     let l : length s.chart ≡ 528 = search rules in
     let few : s.count + 1 ≤ 32 = omega arith in
-    (omega arith, omega (arith, column_fits (s.count + 1) few))
+    record { q_bound = (omega arith, omega (arith, column_fits (s.count + 1) few)) }
 
 pub top_has-admitted-requires : goal.top_has-admitted-requires
 top_has-admitted-requires c =
     let s = c.args.session in
     let l : length s.chart ≡ 528 = search rules in
-    let few : s.count + 1 ≤ 32 = omega arith in (
-      (tested_accepted _ _ c.test_image-tested.ensures c.if-early-ne0.false).whole.long,
-      omega arith,
-      omega (arith, c.fill_one-firings.auto.chart, cells_more s.count, cells_column s.count, column_fits (s.count + 1) few),
-    )
+    let few : s.count + 1 ≤ 32 = omega arith in
+    ((taken c.in_ok-grammar.grammar.accepted).whole.long, omega arith, omega (arith, c.fill_one-firings.auto.chart, cells_more s.count, cells_column s.count, column_fits (s.count + 1) few))

@@ -1,14 +1,16 @@
--- The invariant: the place is within the buffer, which keeps its length; each turn that goes on has read some bytes, and they stand up to the place.
+-- A read that gives some bytes puts them behind those that stand already.
 -- Assumes nothing.
-use Rattle.std.proofs.Common.{arith}
-use Rattle.shell.proofs.Streams.{read_on}
+use Rattle.std.proofs.Common.{rules, arith}
+use Rattle.std.proofs.lemmas.Slice.{overwrites}
+use Rattle.shell.proofs.Streams.{read_more}
 use Rattle.shell.proofs.load.Goals as goal
 
 pub loop-at-preserved : goal.loop-at-preserved
 loop-at-preserved g c =
-    let r = c.read_from-read in
+    let l = c.loop-at in
+    let read = c.read-got.ensures in
     record {
-      inside = omega arith;
-      as_long = omega arith;
-      read = read_on _ _ _ _ _ _ _ r.ensures.len_in_bounds.0 r.ensures.front c.loop-at.invariant.read r.ensures.read;
+      inside = search (rules, overwrites);
+      as_long = search (rules, overwrites);
+      read = read_more _ _ _ _ _ _ _ _ _ c.read-got.result c.after_read.result (omega arith) (search (rules, overwrites)) l.invariant.read read.bound read.bytes c.after_read.ensures.value c.in_ok-next.was;
     }

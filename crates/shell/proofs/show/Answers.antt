@@ -6,7 +6,7 @@ use Rattle.shell.proofs.show.Goals as goal
 -- not all was written, and that is said
 pub returns-then-not-write_out : goal.returns-then-not-write_out
 returns-then-not-write_out g c =
-    let size = c.write_read-size in
+    let size = c.write_output-size in
     let written = (size.ensures.enough (omega arith)).1 in
     let part = c.write_out.ensures.short c.if-not-write_out.true in
     let said = c.write_out-then-not-write_out.ensures.front in

@@ -12,8 +12,8 @@ use Rattle.table.proofs.word_of.Goals as goal
 inside : (t : List ℕ) (N A i k at : ℕ) → A < N → i < k → table_words N k ≤ length t → at ≡ slot_of N A i k → at < length t
 inside t N A i k at symbol lt fits is = rw is (lt_of_lt_of_le (slot_fits N A i k k symbol lt (le_refl k)) fits)
 
-pub offset_bounds-table-at : goal.offset_bounds-table-at
-offset_bounds-table-at c = scaled_Fits _ _ 4 (inside _ _ _ _ _ _ c.requires.1 c.requires.2 c.requires.4 c.slot-at.ensures) c.well_formed.0.1
+pub offset_bounds-table-slot : goal.offset_bounds-table-slot
+offset_bounds-table-slot c = scaled_Fits _ _ 4 (inside _ _ _ _ _ _ c.requires.1 c.requires.2 c.requires.4 c.slot.ensures) c.well_formed.0.1
 
-pub bounds-table-at : goal.bounds-table-at
-bounds-table-at c = inside _ _ _ _ _ _ c.requires.1 c.requires.2 c.requires.4 c.slot-at.ensures
+pub bounds-table-slot : goal.bounds-table-slot
+bounds-table-slot c = inside _ _ _ _ _ _ c.requires.1 c.requires.2 c.requires.4 c.slot.ensures

@@ -1,16 +1,16 @@
--- The invariant: out is as it was, with the first i bytes of src from the place at on.
+-- The part that src was copied over stands from the place at on, and is as long as src.
 -- Assumes nothing.
-use Rattle.std.proofs.Common.{arith, length-set}
-use Rattle.std.proofs.lemmas.List.Edits.{paste_more}
+use Rattle.std.proofs.Common.{◌+◌, ◌-◌, arith, length}
+use Rattle.std.proofs.lemmas.Slice.{take-put_mid, drop-put_mid}
 use Rattle.text.proofs.put_bytes.Goals as goal
 
--- the next byte is pasted too
-pub loop-i-preserved : goal.loop-i-preserved
-loop-i-preserved c =
-    let l = c.loop-i in
+pub returns-clause-put : goal.returns-clause-put
+returns-clause-put c =
     let a = c.args in
+    let end = a.at + length a.src.now in
+    let new = c.copy_from_slice.new.self in
     record {
-      inside = omega arith;
-      pasted = cc (paste_more a.out.now a.at a.src.now l.i 0 (omega arith) (omega arith));
-      as_long = simp length-set (omega arith);
+      behind = omega arith;
+      written = cc (c.copy_from_slice.ensures.after, take-put_mid a.at (end - a.at) a.out.now new end (omega arith) (omega arith));
+      rest = drop-put_mid a.at (end - a.at) a.out.now new end (omega arith) (omega arith) (omega arith);
     }

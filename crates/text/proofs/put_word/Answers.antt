@@ -10,5 +10,5 @@ pub returns-clause-upper_bound : goal.returns-clause-upper_bound
 returns-clause-upper_bound c =
     let a = c.args in
     let p = c.put_number in
-    let e = place_behind a.out.now p.new.out (text a.x) a.at p.result (omega arith) (omega arith) p.ensures.put.written in
-    omega (arith, e, text_short 5 a.x (lit< tt) (omega arith))
+    let e = place_behind a.out.now p.new.out (text c.from.result) a.at p.result (omega arith) (omega arith) p.ensures.put.written in
+    omega (arith, e, text_short 5 c.from.result (lit< tt) (omega arith))

@@ -3,21 +3,21 @@ use Rattle.std.proofs.Common.{ℕ, ◌++◌, ◌∙◌, ◌<◌, sym, ap, ap₂,
 use Rattle.std.proofs.Math.Nat.{sub-zero}
 use Rattle.derivation.specs.Tree.{script_word_count}
 use Rattle.derivation.proofs.Readings.{count_events, reading_at, spelling_quiet}
-use Rattle.layout.specs.Layout.{decode}
+use Rattle.image.specs.Shown.{shown}
 use Rattle.unrank.proofs.write_reading.Goals as goal
 
-pub returns-then-n-eq0 : goal.returns-then-n-eq0
-returns-then-n-eq0 c =
-    let z = c.if-n-eq0.true in
+pub returns-else-n-ne0 : goal.returns-else-n-ne0
+returns-else-n-ne0 c =
+    let z = c.if-n-ne0.false in
     sym (ap₂ ◌++◌ (spelling_quiet _ _ z _ c.requires.k_lt_limit.1) (ap (λ (n : ℕ). drop (script_word_count n) c.args.room.now) z))
 
 pub write_script-requires-clause-rank_lt_limit : goal.write_script-requires-clause-rank_lt_limit
 write_script-requires-clause-rank_lt_limit c =
-    let some : 0 < length c.args.events.now = omega (arith, c.if-n-eq0.false) in
-    (c.requires.k_lt_limit.0, rw (count_events (decode c.args.image.now) c.args.events.now some) at c.requires.k_lt_limit.1)
+    let some : 0 < length c.args.counts.events.now = omega (arith, c.if-n-ne0.true) in
+    (c.requires.k_lt_limit.0, rw (count_events (shown c.args.counts.grammar) c.args.counts.events.now some) at c.requires.k_lt_limit.1)
 
-pub returns : goal.returns
-returns c =
-    let some : 0 < length c.args.events.now = omega (arith, c.if-n-eq0.false) in
+pub returns-then-n-ne0 : goal.returns-then-n-ne0
+returns-then-n-ne0 c =
+    let some : 0 < length c.args.counts.events.now = omega (arith, c.if-n-ne0.true) in
     c.write_script.ensures
-    ∙ ap₂ ◌++◌ (sym (reading_at _ _ some _ c.requires.k_lt_limit.1)) (ap (λ (n : ℕ). drop (script_word_count n) c.args.room.now) (sub-zero (length c.args.events.now)))
+    ∙ ap₂ ◌++◌ (sym (reading_at _ _ some _ c.requires.k_lt_limit.1)) (ap (λ (n : ℕ). drop (script_word_count n) c.args.room.now) (sub-zero (length c.args.counts.events.now)))

@@ -4,6 +4,7 @@ use Rattle.std.proofs.Common.{◌≡◌, ◌≢◌, ◌+◌, ◌<◌, ◌≤◌,
 use Rattle.std.proofs.Math.Nat.{le_trans}
 use Rattle.derivation.specs.Grammar.{Grammar}
 use Rattle.derivation.specs.Sound.{Sound}
+use Rattle.image.proofs.Outcomes.{taken}
 use Rattle.table.specs.Table.{slot_of}
 use Rattle.table.specs.Fill.{CountsIn}
 use Rattle.table.proofs.Slots.{words_on}
@@ -24,7 +25,7 @@ pub step_parts-step_script-requires : goal.step_parts-step_script-requires
 step_parts-step_script-requires t c =
     let o = c.requires.i_lt_j in (
       omega (arith, o.0, o.1),
-      (c.requires.accepted, (c.requires.counts_in, ((o.1, o.2, o.3), record { q = _; rest = _; is = right_begins _ _ _ _ _ _ o.0 o.1 _ _ _ _ _ _ c.requires.some_parted.is }))),
+      ((o.1, o.2, o.3), record { q = _; rest = _; is = right_begins _ _ _ _ _ _ o.0 o.1 _ _ _ _ _ _ c.requires.some_parted.is }),
     )
 
 pub step_parts-returns-then-step_script : goal.step_parts-returns-then-step_script
@@ -37,7 +38,7 @@ step_parts-step_script-requires-2 t c =
     let o = c.requires.i_lt_j in
     let a = right_kept _ _ _ _ _ _ o.0 o.1 _ _ _ _ _ _ c.requires.some_parted.is _ _ c.step_script.ensures c.if-step_script.false in (
       omega (arith, o.0, o.1),
-      (c.requires.accepted, (c.requires.counts_in, ((o.0, omega (arith, o.1, o.2), omega (arith, o.1, o.3)), record { q = _; rest = _; is = left_begins _ _ _ _ _ _ o.0 o.1 _ _ _ _ _ _ a }))),
+      ((o.0, omega (arith, o.1, o.2), omega (arith, o.1, o.3)), record { q = _; rest = _; is = left_begins _ _ _ _ _ _ o.0 o.1 _ _ _ _ _ _ a }),
     )
 
 pub step_parts-slice_bounds-write_script-count : goal.step_parts-slice_bounds-write_script-count
@@ -82,17 +83,17 @@ step_script-word_of-requires t c =
     let o = c.requires.i_lt_k in
     let n = c.symbol_count-symbols.ensures.0 in
     let a = c.requires.begun in (
-      rw n c.requires.accepted.sound.range.symbols,
-      rw n (symbol_known _ _ _ _ _ c.requires.accepted.sound a.q a.is.below),
+      rw n (taken c.args.counts.grammar.accepted).sound.range.symbols,
+      rw n (symbol_known _ _ _ _ _ (taken c.args.counts.grammar.accepted).sound a.q a.is.below),
       o.0,
       o.2,
-      rw n (le_trans (words_on _ _ _ o.1) c.requires.counts_in.fits),
+      rw n (le_trans (words_on _ _ _ o.1) c.args.counts.counts.fits),
     )
 
 pub step_script-returns-then-word_of-eq1 : goal.step_script-returns-then-word_of-eq1
 step_script-returns-then-word_of-eq1 t c =
     let o = c.requires.i_lt_k in
-    only_one _ _ _ _ _ _ _ (counted _ _ _ _ _ _ c.requires.counts_in c.requires.accepted.sound o.0 o.1 c.requires.begun _ c.symbol_count-symbols.ensures.0 _ c.word_of.ensures) c.if-word_of-eq1.true
+    only_one _ _ _ _ _ _ _ (counted _ _ _ _ _ _ c.args.counts.counts (taken c.args.counts.grammar.accepted).sound o.0 o.1 c.requires.begun _ c.symbol_count-symbols.ensures.0 _ c.word_of.ensures) c.if-word_of-eq1.true
 
 pub step_script-bounds-room-0 : goal.step_script-bounds-room-0
 step_script-bounds-room-0 t c = omega (arith, begun_length _ _ _ _ _ _ c.requires.i_lt_k.0 c.requires.begun)
@@ -100,72 +101,72 @@ step_script-bounds-room-0 t c = omega (arith, begun_length _ _ _ _ _ _ c.require
 pub step_script-overflow_sub-b : goal.step_script-overflow_sub-b
 step_script-overflow_sub-b t c =
     let o = c.requires.i_lt_k in
-    let second = second_event_of _ _ _ _ _ _ _ c.requires.counts_in c.requires.accepted.sound o.0 o.1 c.requires.begun _ _ c.symbol_count-symbols.ensures.0 c.word_of.ensures c.if-word_of-eq1.false in
+    let second = second_event_of _ _ _ _ _ _ _ c.args.counts.counts (taken c.args.counts.grammar.accepted).sound o.0 o.1 c.requires.begun _ _ c.symbol_count-symbols.ensures.0 c.word_of.ensures c.if-word_of-eq1.false in
     let r = root _ _ _ _ _ second _ _ c.leaf_count-leaves.ensures.0 _ _ c.requires.begun.is in
     omega (arith, first_word _ _ _ _ r.text, c.leaf_count-leaves.ensures.0)
 
 pub step_script-bounds-room-1 : goal.step_script-bounds-room-1
 step_script-bounds-room-1 t c = omega (arith, begun_length _ _ _ _ _ _ c.requires.i_lt_k.0 c.requires.begun)
 
-pub step_script-pair_of-p-requires-clause-leaves_value : goal.step_script-pair_of-p-requires-clause-leaves_value
-step_script-pair_of-p-requires-clause-leaves_value t c =
+pub step_script-pair_of-p-requires : goal.step_script-pair_of-p-requires
+step_script-pair_of-p-requires t c =
     let o = c.requires.i_lt_k in
-    let second = second_event_of _ _ _ _ _ _ _ c.requires.counts_in c.requires.accepted.sound o.0 o.1 c.requires.begun _ _ c.symbol_count-symbols.ensures.0 c.word_of.ensures c.if-word_of-eq1.false in
+    let second = second_event_of _ _ _ _ _ _ _ c.args.counts.counts (taken c.args.counts.grammar.accepted).sound o.0 o.1 c.requires.begun _ _ c.symbol_count-symbols.ensures.0 c.word_of.ensures c.if-word_of-eq1.false in
     let r = root _ _ _ _ _ second _ _ c.leaf_count-leaves.ensures.0 _ _ c.requires.begun.is in
-    (c.leaf_count-leaves.ensures.0, r.rule)
+    r.rule
 
 pub step_script-step_parts-requires : goal.step_script-step_parts-requires
 step_script-step_parts-requires t c =
     let o = c.requires.i_lt_k in
-    let second = second_event_of _ _ _ _ _ _ _ c.requires.counts_in c.requires.accepted.sound o.0 o.1 c.requires.begun _ _ c.symbol_count-symbols.ensures.0 c.word_of.ensures c.if-word_of-eq1.false in
+    let second = second_event_of _ _ _ _ _ _ _ c.args.counts.counts (taken c.args.counts.grammar.accepted).sound o.0 o.1 c.requires.begun _ _ c.symbol_count-symbols.ensures.0 c.word_of.ensures c.if-word_of-eq1.false in
     let r = root _ _ _ _ _ second _ _ c.leaf_count-leaves.ensures.0 _ _ c.requires.begun.is in (
       omega arith,
-      (c.requires.accepted, (c.requires.counts_in, ((r.after, r.before, o.1, o.2), some_parted _ _ _ _ _ second _ _ c.leaf_count-leaves.ensures.0 _ _ c.requires.begun.is _ c.pair_of-p.ensures))),
+      ((r.after, r.before, o.1, o.2), some_parted _ _ _ _ _ second _ _ c.leaf_count-leaves.ensures.0 _ _ c.requires.begun.is _ c.pair_of-p.ensures),
     )
 
 pub step_script-returns-then-step_parts : goal.step_script-returns-then-step_parts
 step_script-returns-then-step_parts t c =
     let o = c.requires.i_lt_k in
-    let second = second_event_of _ _ _ _ _ _ _ c.requires.counts_in c.requires.accepted.sound o.0 o.1 c.requires.begun _ _ c.symbol_count-symbols.ensures.0 c.word_of.ensures c.if-word_of-eq1.false in
+    let second = second_event_of _ _ _ _ _ _ _ c.args.counts.counts (taken c.args.counts.grammar.accepted).sound o.0 o.1 c.requires.begun _ _ c.symbol_count-symbols.ensures.0 c.word_of.ensures c.if-word_of-eq1.false in
     record { from = λ q rest a. parts_stepped _ _ _ _ _ second _ _ c.leaf_count-leaves.ensures.0 q rest a _ c.pair_of-p.ensures _ _ c.step_parts.ensures c.if-step_parts.true }
 
-pub step_script-next_plan-next-requires-clause-i_lt_j : goal.step_script-next_plan-next-requires-clause-i_lt_j
-step_script-next_plan-next-requires-clause-i_lt_j t c =
+pub step_script-next_plan-requires-clause-i_lt_j : goal.step_script-next_plan-requires-clause-i_lt_j
+step_script-next_plan-requires-clause-i_lt_j t c =
     let o = c.requires.i_lt_k in
-    let second = second_event_of _ _ _ _ _ _ _ c.requires.counts_in c.requires.accepted.sound o.0 o.1 c.requires.begun _ _ c.symbol_count-symbols.ensures.0 c.word_of.ensures c.if-word_of-eq1.false in
+    let second = second_event_of _ _ _ _ _ _ _ c.args.counts.counts (taken c.args.counts.grammar.accepted).sound o.0 o.1 c.requires.begun _ _ c.symbol_count-symbols.ensures.0 c.word_of.ensures c.if-word_of-eq1.false in
     let r = root _ _ _ _ _ second _ _ c.leaf_count-leaves.ensures.0 _ _ c.requires.begun.is in
     (r.after, r.before, o.1, o.2)
 
-pub step_script-next_plan-next-requires-clause-b_bound : goal.step_script-next_plan-next-requires-clause-b_bound
-step_script-next_plan-next-requires-clause-b_bound t c =
+pub step_script-next_plan-requires-clause-b_bound : goal.step_script-next_plan-requires-clause-b_bound
+step_script-next_plan-requires-clause-b_bound t c =
     let o = c.requires.i_lt_k in
-    let second = second_event_of _ _ _ _ _ _ _ c.requires.counts_in c.requires.accepted.sound o.0 o.1 c.requires.begun _ _ c.symbol_count-symbols.ensures.0 c.word_of.ensures c.if-word_of-eq1.false in
+    let second = second_event_of _ _ _ _ _ _ _ c.args.counts.counts (taken c.args.counts.grammar.accepted).sound o.0 o.1 c.requires.begun _ _ c.symbol_count-symbols.ensures.0 c.word_of.ensures c.if-word_of-eq1.false in
     let r = root _ _ _ _ _ second _ _ c.leaf_count-leaves.ensures.0 _ _ c.requires.begun.is in
     (r.rule, r.symbol)
 
 pub step_script-write_plan-requires-clause-k_in_bounds : goal.step_script-write_plan-requires-clause-k_in_bounds
 step_script-write_plan-requires-clause-k_in_bounds t c =
     let o = c.requires.i_lt_k in
-    let second = second_event_of _ _ _ _ _ _ _ c.requires.counts_in c.requires.accepted.sound o.0 o.1 c.requires.begun _ _ c.symbol_count-symbols.ensures.0 c.word_of.ensures c.if-word_of-eq1.false in
+    let second = second_event_of _ _ _ _ _ _ _ c.args.counts.counts (taken c.args.counts.grammar.accepted).sound o.0 o.1 c.requires.begun _ _ c.symbol_count-symbols.ensures.0 c.word_of.ensures c.if-word_of-eq1.false in
     let k = parts_kept _ _ _ _ _ second _ _ c.leaf_count-leaves.ensures.0 _ _ c.requires.begun.is _ c.pair_of-p.ensures _ _ c.step_parts.ensures c.if-step_parts.false in
     (o.1, o.2, rw k (begun_room _ _ _ _ _ _ c.requires.begun))
 
 pub step_script-write_plan-requires-clause-plan_ok : goal.step_script-write_plan-requires-clause-plan_ok
 step_script-write_plan-requires-clause-plan_ok t c =
     let o = c.requires.i_lt_k in
-    let second = second_event_of _ _ _ _ _ _ _ c.requires.counts_in c.requires.accepted.sound o.0 o.1 c.requires.begun _ _ c.symbol_count-symbols.ensures.0 c.word_of.ensures c.if-word_of-eq1.false in
-    plan_ok _ _ _ _ _ second _ _ c.leaf_count-leaves.ensures.0 _ _ c.requires.begun.is _ c.pair_of-p.ensures _ _ c.step_parts.ensures c.if-step_parts.false _ c.next_plan-next.ensures c.if-next.true
+    let second = second_event_of _ _ _ _ _ _ _ c.args.counts.counts (taken c.args.counts.grammar.accepted).sound o.0 o.1 c.requires.begun _ _ c.symbol_count-symbols.ensures.0 c.word_of.ensures c.if-word_of-eq1.false in
+    plan_ok _ _ _ _ _ second _ _ c.leaf_count-leaves.ensures.0 _ _ c.requires.begun.is _ c.pair_of-p.ensures _ _ c.step_parts.ensures c.if-step_parts.false _ c.in-Some.ensures
 
-pub step_script-returns-then-next : goal.step_script-returns-then-next
-step_script-returns-then-next t c =
+pub step_script-returns-in-Some : goal.step_script-returns-in-Some
+step_script-returns-in-Some t c =
     let o = c.requires.i_lt_k in
-    let second = second_event_of _ _ _ _ _ _ _ c.requires.counts_in c.requires.accepted.sound o.0 o.1 c.requires.begun _ _ c.symbol_count-symbols.ensures.0 c.word_of.ensures c.if-word_of-eq1.false in
+    let second = second_event_of _ _ _ _ _ _ _ c.args.counts.counts (taken c.args.counts.grammar.accepted).sound o.0 o.1 c.requires.begun _ _ c.symbol_count-symbols.ensures.0 c.word_of.ensures c.if-word_of-eq1.false in
     record {
-      from = λ q rest a. plan_written _ _ _ _ _ second _ _ c.leaf_count-leaves.ensures.0 q rest a _ c.pair_of-p.ensures _ _ c.step_parts.ensures c.if-step_parts.false _ c.next_plan-next.ensures c.if-next.true _ c.write_plan.ensures;
+      from = λ q rest a. plan_written _ _ _ _ _ second _ _ c.leaf_count-leaves.ensures.0 q rest a _ c.pair_of-p.ensures _ _ c.step_parts.ensures c.if-step_parts.false _ c.in-Some.ensures _ c.write_plan.ensures;
     }
 
-pub step_script-returns : goal.step_script-returns
-step_script-returns t c =
+pub step_script-returns-in-None : goal.step_script-returns-in-None
+step_script-returns-in-None t c =
     let o = c.requires.i_lt_k in
-    let second = second_event_of _ _ _ _ _ _ _ c.requires.counts_in c.requires.accepted.sound o.0 o.1 c.requires.begun _ _ c.symbol_count-symbols.ensures.0 c.word_of.ensures c.if-word_of-eq1.false in
-    record { from = λ q rest a. no_more _ _ _ _ _ second _ _ c.leaf_count-leaves.ensures.0 q rest a _ c.pair_of-p.ensures _ _ c.step_parts.ensures c.if-step_parts.false _ c.next_plan-next.ensures c.if-next.false }
+    let second = second_event_of _ _ _ _ _ _ _ c.args.counts.counts (taken c.args.counts.grammar.accepted).sound o.0 o.1 c.requires.begun _ _ c.symbol_count-symbols.ensures.0 c.word_of.ensures c.if-word_of-eq1.false in
+    record { from = λ q rest a. no_more _ _ _ _ _ second _ _ c.leaf_count-leaves.ensures.0 q rest a _ c.pair_of-p.ensures _ _ c.step_parts.ensures c.if-step_parts.false c.in-None.ensures }

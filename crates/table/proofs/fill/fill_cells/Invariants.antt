@@ -4,15 +4,12 @@ use Prim.Native.Nat.{◌≤◌}
 use lib.ListN.{length}
 use Rattle.bits.specs.Frame.{Framed}
 use Rattle.derivation.specs.Derivations.{known}
-use Rattle.layout.specs.Layout.{decode}
+use Rattle.image.specs.Shown.{shown}
 use Rattle.marks.specs.Shown.{Shown}
 use Rattle.table.specs.Table.{table_words}
 use Rattle.table.specs.Fill.{Done}
 use Rattle.table.proofs.fill.fill_cells.Given as goal
 
 abbrev pub invariant-loop-i : goal.invariant-loop-i
-invariant-loop-i l = (l.i ≤ l.k) × Done (decode l.image) l.events l.table l.i l.k × Framed l.initial.table l.table 0 (table_words (decode l.image).symbols (length l.events))
-    × (length l.lefts ≡ length l.initial.lefts) × (length l.rights ≡ length l.initial.rights) × Shown (decode l.image).symbols (known (decode l.image) l.events) l.lefts l.rights l.i l.k
-
-abbrev pub decreases-loop-i : goal.decreases-loop-i
-decreases-loop-i l = l.i
+invariant-loop-i l = (l.i ≤ l.k) × Done (shown l.grammar) l.events l.table l.i l.k × Framed l.initial.table l.table 0 (table_words (shown l.grammar).symbols (length l.events))
+    × (length l.lefts ≡ length l.initial.lefts) × (length l.rights ≡ length l.initial.rights) × Shown (shown l.grammar).symbols (known (shown l.grammar) l.events) l.lefts l.rights l.i l.k

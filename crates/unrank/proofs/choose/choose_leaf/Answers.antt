@@ -1,12 +1,13 @@
 -- The rules that the search passes add nothing; a rule that fits takes one off the rest, and one that does not leaves it.
 use Rattle.std.proofs.Common.{arith}
+use Rattle.image.proofs.Outcomes.{taken}
 use Rattle.unrank.proofs.Plans.{leaf_past, leaf_skip}
 use Rattle.unrank.proofs.Begins.{event_rules, leaves_nothing, choose_from}
 use Rattle.unrank.proofs.choose.choose_leaf.Goals as goal
 use Rattle.unrank.proofs.choose.choose_leaf.Goals.{then-turns+else-rest-eq0, else-turns}
 
-pub first_rule-first-requires-clause-one_kind : goal.first_rule-first-requires-clause-one_kind
-first_rule-first-requires-clause-one_kind c = rw c.leaf_count-leaves.ensures.0 (event_rules _ c.requires.accepted.sound)
+pub first_rule-first-requires : goal.first_rule-first-requires
+first_rule-first-requires c = rw c.leaf_count-leaves.ensures.0 (event_rules _ (taken c.args.grammar.accepted).sound)
 
 pub loop-r-init : goal.loop-r-init
 loop-r-init c =
