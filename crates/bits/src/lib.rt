@@ -1,11 +1,11 @@
-// A word as a set of numbers below 64: a bit is tested or put in, all are counted, the first one is found, each is visited.
+// A word as a set of numbers below 64: a bit is tested, put in or taken out, all are counted, the first one is found, each is visited.
 #![tactic(auto)]
 
 ghost use Rattle.std.specs.Prelude.{◌≡◌, ◌≤◌, ◌<◌};
 ghost use Rattle.std.specs.Iterator.{at_most};
 ghost use Rattle.bits.specs.Sum.{sum};
 ghost use Rattle.bits.specs.Bit.{bit};
-ghost use Rattle.bits.specs.Word.{put, GivesMember};
+ghost use Rattle.bits.specs.Word.{put, Without, GivesMember};
 
 use std::marker::Model;
 
@@ -40,6 +40,14 @@ pub fn first_bit(word: u64) -> usize
     ensures { (result < 64) × (bit word result ≡ 1) }
 {
     u64::trailing_zeros(word) as usize
+}
+
+// A word without a bit that it has.
+pub fn without(word: u64, a: usize) -> u64
+    requires { (a < 64) × (bit word a ≡ 1) }
+    ensures { Without word a result }
+{
+    word - (1 << a)
 }
 
 // The numbers in a word, one by one: it is seen as the word of those that are left.

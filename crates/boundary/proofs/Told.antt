@@ -1,14 +1,24 @@
--- Nothing is lost in what C is told: a service's number, rule and zeros decide its Result, so that the one outcome that a contract admits is one Result too.
+-- Nothing is lost in what C is told: the record of a service's number, rule and answer decides its Result, so that the one outcome that a contract admits is
+-- one Result too.
 -- Assumes nothing.
 use Prim.Native.Nat.{ℕ}
 use mathlib.Core.Path.{◌≡◌, refl, sym, ap, ap₂, ◌∙◌}
-use Rattle.std.specs.Prelude.{cond, ◌==◌}
+use mathlib.Core.Logic.{◌⊎◌, inl, inr}
+use Rattle.std.specs.Prelude.{Bool, cond, ◌==◌}
 use Rattle.std.specs.declared.result.Result.{Result}
 use Rattle.std.specs.declared.result.Result.TheVariants.{Ok, Err}
-use Rattle.image.specs.Answer.{number_of, rule_of, number_in, rule_in}
+use Rattle.image.specs.Answer.{Tested, number_of, rule_of, number_in, rule_in}
+use Rattle.image.specs.Outcome.{tested}
+use Rattle.image.specs.declared.accepted.Grammar.{Grammar}
 use Rattle.image.specs.declared.numbered.Refusal.{Refusal}
 use Rattle.image.specs.declared.numbered.Refusal.TheVariants as variant
 use Rattle.image.proofs.Outcomes.{never_zero}
+use Rattle.chart.specs.declared.Judgement.{Judgement}
+use Rattle.chart.specs.Answer.{Judged, judged}
+use Rattle.session.specs.declared.Session.{Session}
+use Rattle.session.specs.declared.Addition.{Addition}
+use Rattle.session.specs.Answer.{Added, TakenBack, added, taken_back}
+use Rattle.readings.specs.Answer.{Counted, Read, Paged, Checked, Found, counted, read, paged, checked, found}
 
 -- ---- a refusal from its number and its rule
 refusal_with : (number rule : ℕ) → Refusal
@@ -60,3 +70,64 @@ told (Ok x) (Ok y) n e same = ap Ok (same x y refl refl)
 told (Ok x) (Err f) n e same = absurd (never_zero f (sym n))
 told (Err d) (Ok y) n e same = absurd (never_zero d n)
 told (Err d) (Err f) n e same = ap Err (refusal_told d f n e)
+
+-- ---- of each service: what C is told of two Results is the same only where they are
+pub judged_told : (r s : Result Judgement Refusal) → judged r ≡ judged s → r ≡ s
+judged_told (Ok x) (Ok y) e = ap Ok (λ i. record { admitted = (e i).admitted; items = (e i).items; firings = (e i).firings })
+judged_told (Ok x) (Err f) e = absurd (never_zero f (sym (ap (λ (j : Judged). j.refusal) e)))
+judged_told (Err d) (Ok y) e = absurd (never_zero d (ap (λ (j : Judged). j.refusal) e))
+judged_told (Err d) (Err f) e = ap Err (refusal_told d f (ap (λ (j : Judged). j.refusal) e) (ap (λ (j : Judged). j.rule) e))
+
+pub counted_told : (r s : Result ℕ Refusal) → counted r ≡ counted s → r ≡ s
+counted_told (Ok x) (Ok y) e = ap Ok (ap (λ (c : Counted). c.total) e)
+counted_told (Ok x) (Err f) e = absurd (never_zero f (sym (ap (λ (c : Counted). c.refusal) e)))
+counted_told (Err d) (Ok y) e = absurd (never_zero d (ap (λ (c : Counted). c.refusal) e))
+counted_told (Err d) (Err f) e = ap Err (refusal_told d f (ap (λ (c : Counted). c.refusal) e) (ap (λ (c : Counted). c.rule) e))
+
+-- one that answers nothing but whether it refused
+pub read_told : {T : Type 0} (r s : Result T Refusal) → ((x y : T) → x ≡ y) → read r ≡ read s → r ≡ s
+read_told r s one e = told r s (ap (λ (a : Read). a.refusal) e) (ap (λ (a : Read). a.rule) e) (λ x y p q. one x y)
+
+pub paged_told : (r s : Result ℕ Refusal) → paged r ≡ paged s → r ≡ s
+paged_told (Ok x) (Ok y) e = ap Ok (ap (λ (p : Paged). p.written) e)
+paged_told (Ok x) (Err f) e = absurd (never_zero f (sym (ap (λ (p : Paged). p.refusal) e)))
+paged_told (Err d) (Ok y) e = absurd (never_zero d (ap (λ (p : Paged). p.refusal) e))
+paged_told (Err d) (Err f) e = ap Err (refusal_told d f (ap (λ (p : Paged). p.refusal) e) (ap (λ (p : Paged). p.rule) e))
+
+pub checked_told : (r s : Result Bool Refusal) → checked r ≡ checked s → r ≡ s
+checked_told (Ok x) (Ok y) e = ap Ok (ap (λ (c : Checked). c.yes) e)
+checked_told (Ok x) (Err f) e = absurd (never_zero f (sym (ap (λ (c : Checked). c.refusal) e)))
+checked_told (Err d) (Ok y) e = absurd (never_zero d (ap (λ (c : Checked). c.refusal) e))
+checked_told (Err d) (Err f) e = ap Err (refusal_told d f (ap (λ (c : Checked). c.refusal) e) (ap (λ (c : Checked). c.rule) e))
+
+pub found_told : (r s : Result ℕ Refusal) → found r ≡ found s → r ≡ s
+found_told (Ok x) (Ok y) e = ap Ok (ap (λ (f : Found). f.reading) e)
+found_told (Ok x) (Err f) e = absurd (never_zero f (sym (ap (λ (a : Found). a.refusal) e)))
+found_told (Err d) (Ok y) e = absurd (never_zero d (ap (λ (a : Found). a.refusal) e))
+found_told (Err d) (Err f) e = ap Err (refusal_told d f (ap (λ (a : Found). a.refusal) e) (ap (λ (a : Found). a.rule) e))
+
+pub added_told : (before : Session) (r s : Result Addition Refusal) → added before r ≡ added before s → r ≡ s
+added_told before (Ok x) (Ok y) e = ap Ok (λ i. record { session = (e i).session; firings = (e i).firings; admitted = (e i).admitted })
+added_told before (Ok x) (Err f) e = absurd (never_zero f (sym (ap (λ (a : Added). a.refusal) e)))
+added_told before (Err d) (Ok y) e = absurd (never_zero d (ap (λ (a : Added). a.refusal) e))
+added_told before (Err d) (Err f) e = ap Err (refusal_told d f (ap (λ (a : Added). a.refusal) e) (ap (λ (a : Added). a.rule) e))
+
+-- taking back refuses by 18 alone, whose number decides it
+empty_by_number : (e : Refusal) → number_of e ≡ 18 → e ≡ variant.SessionEmpty
+unfolding refusal_with
+empty_by_number e n = sym (again e) ∙ ap (λ (x : ℕ). refusal_with x (rule_of e)) n
+
+pub taken_back_told : (before : Session) (r s : Result Session Refusal) → (number_in r ≡ 0) ⊎ (number_in r ≡ 18) → taken_back before r ≡ taken_back before s → r ≡ s
+taken_back_told before (Ok x) (Ok y) m e = ap Ok (ap (λ (t : TakenBack). t.session) e)
+taken_back_told before (Ok x) (Err f) m e = absurd (never_zero f (sym (ap (λ (t : TakenBack). t.refusal) e)))
+taken_back_told before (Err d) (Ok y) m e = absurd (never_zero d (ap (λ (t : TakenBack). t.refusal) e))
+taken_back_told before (Err d) (Err f) (inl z) e = absurd (never_zero d z)
+taken_back_told before (Err d) (Err f) (inr n) e =
+    ap Err (empty_by_number d n ∙ sym (empty_by_number f (sym (ap (λ (t : TakenBack). t.refusal) e) ∙ n)))
+
+-- a test hands on the image itself, which its own clause says; its number and its rule are decided
+pub tested_told : (r s : Result Grammar Refusal) → tested r ≡ tested s → (number_in r ≡ number_in s) × (rule_in r ≡ rule_in s)
+tested_told (Ok g) (Ok h) e = (refl, refl)
+tested_told (Ok g) (Err f) e = (ap (λ (t : Tested). t.refusal) e, ap (λ (t : Tested). t.rule) e)
+tested_told (Err d) (Ok h) e = (ap (λ (t : Tested). t.refusal) e, ap (λ (t : Tested). t.rule) e)
+tested_told (Err d) (Err f) e = (ap (λ (t : Tested). t.refusal) e, ap (λ (t : Tested). t.rule) e)

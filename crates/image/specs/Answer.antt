@@ -1,4 +1,4 @@
--- Promised: the number and the rule of a refusal, and what a test answers, as C is told it: 0 with N, L and B, or a refusal with zeros.
+-- Promised: the number and the rule of a refusal, and what C is told of a test: 0 with N, L and B, or a refusal with zeros.
 -- Assumes nothing.
 use Rattle.std.specs.Prelude.{ℕ}
 use Rattle.std.specs.declared.result.Result.{Result}
@@ -54,7 +54,3 @@ passed g = record { refusal = 0; rule = 0; symbols = g.symbols; leaves = event_r
 
 abbrev pub refused : Refusal → Tested
 refused r = record { refusal = number_of r; rule = rule_of r; symbols = 0; leaves = 0; pairs = 0 }
-
-abbrev pub tested : {T : Type 0} → Grammar → Result T Refusal → Tested
-tested g (Ok x) = passed g
-tested g (Err r) = refused r

@@ -5,3 +5,4 @@ pub mod Answer
 pub mod Shown
 pub mod Refuse
 pub mod Accepted
+pub mod Outcome

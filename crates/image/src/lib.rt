@@ -8,7 +8,7 @@ mod refuse; // the rows of the refusal table
 ghost use Rattle.std.specs.Prelude.{◌≡◌, IfOk};
 ghost use Rattle.layout.specs.Layout.{decode};
 ghost use Rattle.image.specs.Image.{image_rows, record_rows, record_byte_rows, TestedIs};
-ghost use Rattle.image.specs.Answer.{tested};
+ghost use Rattle.image.specs.Outcome.{tested};
 
 pub use accepted::Grammar;
 pub use numbered::Refusal;
@@ -23,7 +23,7 @@ pub const LONGEST_IMAGE: usize = layout::HEADER_BYTES
 
 // Tests a grammar image: refusals 1 to 7 and 15.
 pub fn test_image(image: &[u8]) -> Result<Grammar<'_>, Refusal>
-    ensures tested { TestedIs (image_rows image.now) (decode image.now) (tested (decode image.now) result) }
+    ensures tested { TestedIs (image_rows image.now) (decode image.now) (tested result) }
     ensures bytes { IfOk result (λ g. g.bytes.now ≡ image.now) }
 {
     refuse::test_bytes(image)?;
@@ -33,7 +33,7 @@ pub fn test_image(image: &[u8]) -> Result<Grammar<'_>, Refusal>
 
 // Tests a grammar image and a number of events: refusals 1 to 7, 15 and 8.
 pub fn test_record(image: &[u8], events: usize) -> Result<Grammar<'_>, Refusal>
-    ensures tested { TestedIs (record_rows image.now events) (decode image.now) (tested (decode image.now) result) }
+    ensures tested { TestedIs (record_rows image.now events) (decode image.now) (tested result) }
     ensures bytes { IfOk result (λ g. g.bytes.now ≡ image.now) }
 {
     let grammar = test_image(image)?;
@@ -45,7 +45,7 @@ pub fn test_record(image: &[u8], events: usize) -> Result<Grammar<'_>, Refusal>
 
 // Tests a grammar image and a number of bytes, two for each event: refusals 1 to 7, 15, 8 and 14.
 pub fn test_record_bytes(image: &[u8], size: usize) -> Result<Grammar<'_>, Refusal>
-    ensures tested { TestedIs (record_byte_rows image.now size) (decode image.now) (tested (decode image.now) result) }
+    ensures tested { TestedIs (record_byte_rows image.now size) (decode image.now) (tested result) }
     ensures bytes { IfOk result (λ g. g.bytes.now ≡ image.now) }
 {
     let grammar = test_image(image)?;

@@ -23,11 +23,11 @@ use Rattle.kernel.specs.Apply.{along, Applied}
 use Rattle.kernel.proofs.Unions.{needed_absent, applied_unmet}
 use Rattle.kernel.proofs.Visits.{rule_matches, rule_conclusions, Visit, visit_word, visit_count}
 
-along_one : (t : List ℕ) (r a : ℕ) (u : List ℕ) (c : ℕ) → c < 64 → along t r a u (2 ^ c) ≡ meetings t r a u c
+pub along_one : (t : List ℕ) (r a : ℕ) (u : List ℕ) (c : ℕ) → c < 64 → along t r a u (2 ^ c) ≡ meetings t r a u c
 unfolding along
 along_one t r a u c l = sum_cong 64 _ _ (λ s h. ap (λ (x : ℕ). meetings t r a u s * x) (bit_one c s)) ∙ sum_at 64 c (meetings t r a u) l
 
-meetings_le : (t : List ℕ) (r a : ℕ) (u : List ℕ) (c : ℕ) → meetings t r a u c ≤ 128
+pub meetings_le : (t : List ℕ) (r a : ℕ) (u : List ℕ) (c : ℕ) → meetings t r a u c ≤ 128
 unfolding meetings
 meetings_le t r a u c = omega (arith, sum_le 128 1 (λ j. stands t r a j * stands u 0 c j) (λ j l. product_le _ _ (split_lt t _ j) (split_lt u _ j)))
 

@@ -81,7 +81,7 @@ fn write_readings(grammar: Grammar<'_>, events: &[u16], out: &mut [u8]) -> usize
 {
     let mut table = [0u32; TABLE_WORDS];
     let mut room = [0u16; MOST_LISTED as usize * SCRIPT_WORDS];
-    let paged = readings::page_accepted(grammar, events, 0, MOST_LISTED, &mut table, &mut room);
+    let paged = readings::page(grammar.bytes, events, 0, MOST_LISTED, &mut table, &mut room);
     let total = table::total_in(Counts {
         grammar,
         events,

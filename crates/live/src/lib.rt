@@ -110,7 +110,7 @@ fn search(image: &[u8], sought: Sought) -> u64
     loop {
         let more = with_rules(image, set, sought);
         if more == set {
-            return set;
+            return more;
         }
         set = more;
     }

@@ -31,7 +31,7 @@ pub fn write_page(counts: Counts<'_>, k: u32, count: u32, room: &mut [u16])
     for _ in 1..count {
         let end = at + words;
         room.copy_within(at..end, end);
-        step_script(counts, 0, 0, n, &mut room[end..]);
+        step_script(&counts, 0, 0, n, &mut room[end..]);
         at = end;
     }
 }

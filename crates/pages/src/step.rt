@@ -9,10 +9,10 @@ use table::Counts;
 
 // Steps the two parts of a node by the rule p and the split j: the right part, or the left part, and then the right part is the first again.
 #[cycle(step_parts_step_script)]
-fn step_parts(counts: Counts<'_>, p: Pair, i: usize, j: usize, k: usize, room: &mut [u16]) -> bool
-    requires i_lt_j { (i < j) × (j < k) × (k ≤ length counts.events.now) × (k < 65536) }
-    requires some_parted { SomeParted (shown counts.grammar) counts.events.now p i j k room.old }
-    ensures { PartsStepped (shown counts.entry.grammar) counts.entry.events.now p i j k room.old result room.new }
+fn step_parts(counts: &Counts<'_>, p: Pair, i: usize, j: usize, k: usize, room: &mut [u16]) -> bool
+    requires i_lt_j { (i < j) × (j < k) × (k ≤ length counts.now.events.now) × (k < 65536) }
+    requires some_parted { SomeParted (shown counts.now.grammar) counts.now.events.now p i j k room.old }
+    ensures { PartsStepped (shown counts.now.grammar) counts.now.events.now p i j k room.old result room.new }
 {
     let mid = 4 * (j - i);
     if step_script(counts, p.right, j, k, &mut room[mid..]) {
@@ -27,12 +27,12 @@ fn step_parts(counts: Counts<'_>, p: Pair, i: usize, j: usize, k: usize, room: &
 
 // Puts the next derivation of the symbol over i to k in the place of the one that the room begins with; answers whether there is one.
 #[cycle(step_parts_step_script)]
-pub fn step_script(counts: Counts<'_>, symbol: usize, i: usize, k: usize, room: &mut [u16]) -> bool
-    requires i_lt_k { (i < k) × (k ≤ length counts.events.now) × (k < 65536) }
-    requires begun { Begun (shown counts.grammar) counts.events.now symbol i k room.old }
-    ensures { Stepped (shown counts.entry.grammar) counts.entry.events.now symbol i k room.old result room.new }
+pub fn step_script(counts: &Counts<'_>, symbol: usize, i: usize, k: usize, room: &mut [u16]) -> bool
+    requires i_lt_k { (i < k) × (k ≤ length counts.now.events.now) × (k < 65536) }
+    requires begun { Begun (shown counts.now.grammar) counts.now.events.now symbol i k room.old }
+    ensures { Stepped (shown counts.now.grammar) counts.now.events.now symbol i k room.old result room.new }
 {
-    let Counts { grammar, table, .. } = counts;
+    let Counts { grammar, table, .. } = *counts;
     let symbols = grammar.symbol_count();
     if table::word_of(table, symbols, symbol, i, k) == 1 {
         return false;
@@ -44,7 +44,7 @@ pub fn step_script(counts: Counts<'_>, symbol: usize, i: usize, k: usize, room: 
     if step_parts(counts, p, i, j, k, room) {
         return true;
     }
-    match next_plan(counts, symbol, i, k, b, j) {
+    match next_plan(*counts, symbol, i, k, b, j) {
         Some(plan) => {
             unrank::write_plan(counts, i, k, plan, room);
             true

@@ -3,11 +3,11 @@ ghost use Rattle.std.specs.Prelude.{◌≡◌, ◌≤◌, ◌<◌, length};
 ghost use Rattle.bits.specs.Sum.{sum, between};
 ghost use Rattle.derivation.specs.Grammar.{pair_rule_count};
 ghost use Rattle.image.specs.Shown.{shown};
-ghost use Rattle.table.specs.Table.{held};
+ghost use Rattle.table.specs.Table.{held, table_words};
 ghost use Rattle.table.specs.Fill.{split_adds, pair_adds, InReach};
 ghost use Rattle.rank.specs.Rank.{place_of};
 
-use table::Counts;
+use image::Grammar;
 use table::numbers::{held_product, held_sum};
 
 // What two symbols add over i to k with the splits before `to`.
@@ -32,12 +32,18 @@ fn splits_before(
 }
 
 // What the pair rules before rule b add to the word of the symbol over i to k.
-fn rules_before(counts: Counts<'_>, symbol: usize, i: usize, k: usize, b: usize) -> u32
-    requires i_lt_k { (i < k) × (k ≤ length counts.events.now) × (k < 65536) }
-    requires b_bound { b ≤ pair_rule_count (shown counts.grammar) }
-    ensures { result ≡ held (sum b (pair_adds (shown counts.entry.grammar) counts.entry.table.now i k symbol)) }
+fn rules_before(
+    grammar: Grammar<'_>,
+    table: &[u32],
+    symbol: usize,
+    i: usize,
+    k: usize,
+    b: usize,
+) -> u32
+    requires i_lt_k { (i < k) × (k < 65536) × (table_words (shown grammar).symbols k ≤ length table.now) }
+    requires b_bound { b ≤ pair_rule_count (shown grammar) }
+    ensures { result ≡ held (sum b (pair_adds (shown grammar.entry) table.now i k symbol)) }
 {
-    let Counts { grammar, table, .. } = counts;
     let symbols = grammar.symbol_count();
     let mut total: u32 = 0;
     for c in 0..b {
@@ -52,7 +58,8 @@ fn rules_before(counts: Counts<'_>, symbol: usize, i: usize, k: usize, b: usize)
 
 // The number of a derivation over i to k by pair rule b and the split j, held at the limit, from those of its two parts.
 pub fn node_rank(
-    counts: Counts<'_>,
+    grammar: Grammar<'_>,
+    table: &[u32],
     i: usize,
     k: usize,
     b: usize,
@@ -60,14 +67,13 @@ pub fn node_rank(
     first: u32,
     second: u32,
 ) -> u32
-    requires i_lt_j { (i < j) × (j < k) × (k ≤ length counts.events.now) × (k < 65536) }
-    requires b_bound { b < pair_rule_count (shown counts.grammar) }
-    ensures { result ≡ held (place_of (shown counts.entry.grammar) counts.entry.table.now i k b j first second) }
+    requires i_lt_j { (i < j) × (j < k) × (k < 65536) × (table_words (shown grammar).symbols k ≤ length table.now) }
+    requires b_bound { b < pair_rule_count (shown grammar) }
+    ensures { result ≡ held (place_of (shown grammar.entry) table.now i k b j first second) }
 {
-    let Counts { grammar, table, .. } = counts;
     let symbols = grammar.symbol_count();
     let p = lookup::pair_of(grammar, b);
-    let rules = rules_before(counts, p.symbol, i, k, b);
+    let rules = rules_before(grammar, table, p.symbol, i, k, b);
     let splits = splits_before(table, symbols, p.left, p.right, i, k, j);
     let count = table::word_of(table, symbols, p.right, j, k);
     let lefts = held_product(first, count);

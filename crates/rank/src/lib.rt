@@ -15,22 +15,23 @@ use table::Counts;
 
 // The number of a script among those of the symbol over i to k, held at the limit. Over one event there is no other: no two event rules are
 // the same.
-fn rank_script(counts: Counts<'_>, symbol: usize, i: usize, k: usize, script: &[u16]) -> u32
-    requires i_lt_k { (i < k) × (k ≤ length counts.events.now) × (k < 65536) }
-    requires spells { Spells (shown counts.grammar) counts.events.now symbol i k script.now }
-    ensures { HeldOf (RankOf (shown counts.entry.grammar) counts.entry.events.now symbol i k script.now) result }
+fn rank_script(counts: &Counts<'_>, symbol: usize, i: usize, k: usize, script: &[u16]) -> u32
+    requires i_lt_k { (i < k) × (k ≤ length counts.now.events.now) × (k < 65536) }
+    requires spells { Spells (shown counts.now.grammar) counts.now.events.now symbol i k script.now }
+    ensures { HeldOf (RankOf (shown counts.now.grammar) counts.now.events.now symbol i k script.now) result }
 {
     if k == i + 1 {
         return 0;
     }
-    let leaves = counts.grammar.leaf_count();
+    let Counts { grammar, table, .. } = *counts;
+    let leaves = grammar.leaf_count();
     let b = script[0] as usize - leaves;
     let j = script[1] as usize;
-    let p = lookup::pair_of(counts.grammar, b);
+    let p = lookup::pair_of(grammar, b);
     let mid = 4 * (j - i);
     let first = rank_script(counts, p.left, i, j, &script[2..mid]);
     let second = rank_script(counts, p.right, j, k, &script[mid..]);
-    node_rank(counts, i, k, b, j, first, second)
+    node_rank(grammar, table, i, k, b, j, first, second)
 }
 
 // The number of the reading with this script, held at the limit; an empty record has one reading at most.
@@ -42,6 +43,6 @@ pub fn rank_reading(counts: Counts<'_>, script: &[u16]) -> u32
     if counts.events.is_empty() {
         0
     } else {
-        rank_script(counts, 0, 0, counts.events.len(), script)
+        rank_script(&counts, 0, 0, counts.events.len(), script)
     }
 }

@@ -74,6 +74,7 @@ pub fn page(
 }
 
 // Writes the script of reading number k to the front of the room, and fills the table: a page of one.
+#[tactic(auto, using(crate::proofs::Pages::page_of_one))]
 pub fn reading(
     image: &[u8],
     events: &[u16],

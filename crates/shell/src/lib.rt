@@ -5,7 +5,7 @@ ghost use Rattle.std.specs.Prelude.{◌≡◌, ℕ, Bool, List, Option, true, fa
 ghost use Rattle.std.specs.Io.KnownBytes.{Appends, Consumes, IsAtEnd};
 ghost use Rattle.io.specs.Counts.{IsPrefixLen};
 ghost use Rattle.image.specs.Accepted.{longest_image};
-ghost use Rattle.listing.specs.Listing.{most_event_bytes, most_bytes, OutputIs, bytes_shown};
+ghost use Rattle.listing.specs.Listing.{most_event_bytes, most_bytes, OutputIs};
 ghost use Rattle.shell.specs.Streams.{ReadInto, Shown, read_len};
 
 use std::env::Env;
@@ -79,13 +79,23 @@ fn write_out<W: Write>(to: &mut W, bytes: &[u8]) -> bool
     true
 }
 
-// Writes out what is to be written of two files.
-fn show<W: Write, E: Write>(out: &mut W, err: &mut E, image: Option<&[u8]>, events: Option<&[u8]>)
-    ensures { (bs : List ℕ) × OutputIs (is_some image.entry) (bytes_shown image.entry) (is_some events.entry) (bytes_shown events.entry) bs
+// Writes out what is to be written of two files, of which a and b were read into the buffers. Of a longer file such a buffer holds the bytes that
+// decide.
+fn show<W: Write, E: Write>(
+    out: &mut W,
+    err: &mut E,
+    image: &[u8],
+    a: Result<usize, usize>,
+    events: &[u8],
+    b: Result<usize, usize>,
+)
+    requires longest_image_in_bounds { (longest_image < length image.now) × (most_event_bytes < length events.now) }
+    requires len_in_bounds { (read_len a ≤ length image.now) × (read_len b ≤ length events.now) }
+    ensures { (bs : List ℕ) × OutputIs (is_ok a) (take (read_len a) image.now) (is_ok b) (take (read_len b) events.now) bs
         × Shown (W.contents out.old) (W.contents out.new) (E.contents err.old) (E.contents err.new) bs }
 {
     let mut text = room();
-    let size = listing::write_output(image, events, &mut text);
+    let size = listing::write_output(whole(image, a), whole(events, b), &mut text);
     if !write_out(out, &text[..size]) {
         write_out(err, b"standard output: not all was written\n");
     }
@@ -125,7 +135,7 @@ where
     let b = load_opened(&mut event_file, &mut events);
     drop(image_file);
     drop(event_file);
-    show(out, err, whole(&image, a), whole(&events, b));
+    show(out, err, &image, a, &events, b);
 }
 
 // Opens a file by its name. std takes a name as text, so one that is not UTF-8 opens no file.

@@ -28,11 +28,11 @@ fn put_root(room: &mut [u16], rule: usize, split: usize)
 // Writes the script of the derivation that a plan is of, over i to k, to the front of the room: the left part behind the root, and the
 // right part from the middle of the room onward.
 #[cycle(write_plan_write_script)]
-pub fn write_plan(counts: Counts<'_>, i: usize, k: usize, p: Plan, room: &mut [u16])
-    requires k_in_bounds { (k ≤ length counts.events.now) × (k < 65536) × (script_word_count (k - i) ≤ length room.old) }
-    requires plan_ok { PlanOk (shown counts.grammar) counts.events.now i k p }
+pub fn write_plan(counts: &Counts<'_>, i: usize, k: usize, p: Plan, room: &mut [u16])
+    requires k_in_bounds { (k ≤ length counts.now.events.now) × (k < 65536) × (script_word_count (k - i) ≤ length room.old) }
+    requires plan_ok { PlanOk (shown counts.now.grammar) counts.now.events.now i k p }
     ensures { room.new ≡
-        spell (plan_tree (shown counts.entry.grammar) counts.entry.events.now i k p) ++ drop (script_word_count (k - i)) room.old }
+        spell (plan_tree (shown counts.now.grammar) counts.now.events.now i k p) ++ drop (script_word_count (k - i)) room.old }
 {
     let Plan {
         rule,
@@ -56,17 +56,17 @@ pub fn write_plan(counts: Counts<'_>, i: usize, k: usize, p: Plan, room: &mut [u
 // Writes the script of derivation number `rank` of the symbol over i to k to the front of the room.
 #[cycle(write_plan_write_script)]
 pub fn write_script(
-    counts: Counts<'_>,
+    counts: &Counts<'_>,
     symbol: usize,
     i: usize,
     k: usize,
     rank: u32,
     room: &mut [u16],
 )
-    requires i_lt_k { (i < k) × (k ≤ length counts.events.now) × (k < 65536) × (script_word_count (k - i) ≤ length room.old) }
-    requires rank_lt_limit { (rank < limit) × (rank < number (shown counts.grammar) counts.events.now symbol i k) }
+    requires i_lt_k { (i < k) × (k ≤ length counts.now.events.now) × (k < 65536) × (script_word_count (k - i) ≤ length room.old) }
+    requires rank_lt_limit { (rank < limit) × (rank < number (shown counts.now.grammar) counts.now.events.now symbol i k) }
     ensures { room.new ≡
-        spell (get_or (derivations (shown counts.entry.grammar) counts.entry.events.now symbol i k) rank none)
+        spell (get_or (derivations (shown counts.now.grammar) counts.now.events.now symbol i k) rank none)
         ++ drop (script_word_count (k - i)) room.old }
 {
     if k == i + 1 {
@@ -74,7 +74,7 @@ pub fn write_script(
         let rule = choose_leaf(counts.grammar, event, symbol, rank);
         put_root(room, rule, k);
     } else {
-        let p = make_plan(counts, symbol, i, k, rank);
+        let p = make_plan(*counts, symbol, i, k, rank);
         write_plan(counts, i, k, p, room);
     }
 }
@@ -89,6 +89,6 @@ pub fn write_reading(counts: Counts<'_>, k: u32, room: &mut [u16])
 {
     let n = counts.events.len();
     if n != 0 {
-        write_script(counts, 0, 0, n, k, room);
+        write_script(&counts, 0, 0, n, k, room);
     }
 }

@@ -28,20 +28,15 @@ longest m n h = mul-le-mul_left m (one h)
     one : n ≤ most_events → script_word_count n ≤ script_word_count most_events
     one h = omega arith
 
-pub page_accepted-paged-requires : goal.page_accepted-paged-requires
-page_accepted-paged-requires c =
-    let r = c.requires.events_len_bound in
-    record { count = record { image = taken c.args.grammar.accepted; few = r.0; fits = r.1 }; fits = longest _ _ r.0 }
-
 pub invariant_of-total_in : goal.invariant_of-total_in
 invariant_of-total_in c =
     let r = c.requires.events_len_bound in
-    record { counts = page_counts _ _ _ _ _ _ _ _ _ c.page_accepted-paged.ensures (taken c.args.grammar.accepted) r.0 r.1 (longest _ _ r.0) (omega arith) }
+    record { counts = page_counts _ _ _ _ _ _ _ _ _ c.page-paged.ensures (taken c.args.grammar.accepted) r.0 r.1 (longest _ _ r.0) (omega arith) }
 
 pub returns : goal.returns
 returns c =
     let r = c.requires.events_len_bound in
-    let l = page_lines _ _ _ _ _ _ _ c.page_accepted-paged.ensures (taken c.args.grammar.accepted) r.0 r.1 (longest _ _ r.0) _ c.script_words-words.ensures in
-    let count : c.unwrap_or.result ≡ (paged c.page_accepted-paged.result).written = c.unwrap_or.ensures ∙ written_is c.page_accepted-paged.result in
+    let l = page_lines _ _ _ _ _ _ _ c.page-paged.ensures (taken c.args.grammar.accepted) r.0 r.1 (longest _ _ r.0) _ c.script_words-words.ensures in
+    let count : c.unwrap_or.result ≡ (paged c.page-paged.result).written = c.unwrap_or.ensures ∙ written_is c.page-paged.result in
     let lines = rw count at c.write_lines.ensures.1 in
     (c.write_lines.ensures.0, put_as _ _ _ _ _ _ (ap₂ ◌++◌ (ap heading c.total_in-total.ensures) l) (put_more _ _ _ _ _ _ _ _ c.write_heading-end.ensures.1 lines))

@@ -1,13 +1,15 @@
 -- From the numbers of the parts that of the whole is its place behind those before it.
 use Rattle.std.proofs.Common.{refl, arith}
+use Rattle.std.proofs.Math.Nat.{le_trans}
 use Rattle.derivation.proofs.Scripts.{spells_length}
 use Rattle.image.proofs.Outcomes.{taken}
+use Rattle.table.proofs.Slots.{words_on}
 use Rattle.follow.proofs.Spelling.{spelt_node}
 use Rattle.rank.proofs.Ranks.{leaf_ranked, node_ranked}
 use Rattle.rank.proofs.+rank_script.Goals as goal
 
 pub returns-then-k-i : goal.returns-then-k-i
-returns-then-k-i t c = leaf_ranked _ (taken c.args.counts.grammar.accepted).sound _ _ _ _ _ c.if-k-i.true c.requires.spells
+returns-then-k-i t c = leaf_ranked _ (taken c.args.counts.now.grammar.accepted).sound _ _ _ _ _ c.if-k-i.true c.requires.spells
 
 pub bounds-script-0 : goal.bounds-script-0
 bounds-script-0 t c = omega (arith, spells_length _ _ _ _ _ _ c.requires.spells, c.requires.i_lt_k)
@@ -59,7 +61,7 @@ pub node_rank-requires-clause-i_lt_j : goal.node_rank-requires-clause-i_lt_j
 node_rank-requires-clause-i_lt_j t c =
     let p = c.requires.i_lt_k in
     let h = (spelt_node _ _ _ _ _ _ _ refl c.if-k-i.false c.requires.spells).root in
-    (h.after, h.before, p.1, p.2)
+    (h.after, h.before, p.2, le_trans (words_on _ _ _ p.1) c.args.counts.now.counts.fits)
 
 pub node_rank-requires-clause-b_bound : goal.node_rank-requires-clause-b_bound
 node_rank-requires-clause-b_bound t c =
@@ -71,6 +73,6 @@ returns t c =
     let h = (spelt_node _ _ _ _ _ _ _ refl c.if-k-i.false c.requires.spells).root in
     let a = c.pair_of-p.ensures in
     let n = c.leaf_count-leaves.ensures.0 in
-    node_ranked _ (taken c.args.counts.grammar.accepted).sound _ _ c.args.counts.counts _ _ _ _ _ c.requires.i_lt_k.1 (omega (arith, h.low, h.high, n)) (rw n h.symbol) h.after h.before
+    node_ranked _ (taken c.args.counts.now.grammar.accepted).sound _ _ c.args.counts.now.counts _ _ _ _ _ c.requires.i_lt_k.1 (omega (arith, h.low, h.high, n)) (rw n h.symbol) h.after h.before
     _ (spells_length _ _ _ _ _ _ c.requires.spells) (omega (arith, h.low, n)) refl _ _ _
     (rw a.left at c.rank_script-first.ensures) (rw a.right at c.rank_script-second.ensures) c.node_rank.ensures

@@ -1,17 +1,13 @@
--- What was read of a file is what is listed of it, where all could be read.
+-- What was read of a file is what is listed of it.
 -- Assumes nothing.
 use Rattle.std.proofs.Common.{rules, take, is_ok}
-use Rattle.listing.proofs.Lists.{output_unread}
 use Rattle.shell.specs.Streams.{read_len}
-use Rattle.shell.proofs.Streams.{shown_whole}
 use Rattle.shell.proofs.list_opened.Goals as goal
 
 pub returns : goal.returns
 returns g c =
     let a = c.load_opened-a in
     let b = c.load_opened-b in
-    let image = c.whole.ensures in
-    let events = c.whole-2.ensures in
     let shown = c.show.ensures in (
       a.new.file,
       b.new.file,
@@ -22,6 +18,6 @@ returns g c =
       shown.0,
       search rules,
       search rules,
-      rw (← image.0, ← events.0) (output_unread _ _ _ _ _ _ _ (shown_whole _ _ image.1) (shown_whole _ _ events.1) shown.1),
+      shown.1,
       shown.2,
     )

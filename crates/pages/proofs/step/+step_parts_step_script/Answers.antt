@@ -83,17 +83,17 @@ step_script-word_of-requires t c =
     let o = c.requires.i_lt_k in
     let n = c.symbol_count-symbols.ensures.0 in
     let a = c.requires.begun in (
-      rw n (taken c.args.counts.grammar.accepted).sound.range.symbols,
-      rw n (symbol_known _ _ _ _ _ (taken c.args.counts.grammar.accepted).sound a.q a.is.below),
+      rw n (taken c.args.counts.now.grammar.accepted).sound.range.symbols,
+      rw n (symbol_known _ _ _ _ _ (taken c.args.counts.now.grammar.accepted).sound a.q a.is.below),
       o.0,
       o.2,
-      rw n (le_trans (words_on _ _ _ o.1) c.args.counts.counts.fits),
+      rw n (le_trans (words_on _ _ _ o.1) c.args.counts.now.counts.fits),
     )
 
 pub step_script-returns-then-word_of-eq1 : goal.step_script-returns-then-word_of-eq1
 step_script-returns-then-word_of-eq1 t c =
     let o = c.requires.i_lt_k in
-    only_one _ _ _ _ _ _ _ (counted _ _ _ _ _ _ c.args.counts.counts (taken c.args.counts.grammar.accepted).sound o.0 o.1 c.requires.begun _ c.symbol_count-symbols.ensures.0 _ c.word_of.ensures) c.if-word_of-eq1.true
+    only_one _ _ _ _ _ _ _ (counted _ _ _ _ _ _ c.args.counts.now.counts (taken c.args.counts.now.grammar.accepted).sound o.0 o.1 c.requires.begun _ c.symbol_count-symbols.ensures.0 _ c.word_of.ensures) c.if-word_of-eq1.true
 
 pub step_script-bounds-room-0 : goal.step_script-bounds-room-0
 step_script-bounds-room-0 t c = omega (arith, begun_length _ _ _ _ _ _ c.requires.i_lt_k.0 c.requires.begun)
@@ -101,7 +101,7 @@ step_script-bounds-room-0 t c = omega (arith, begun_length _ _ _ _ _ _ c.require
 pub step_script-overflow_sub-b : goal.step_script-overflow_sub-b
 step_script-overflow_sub-b t c =
     let o = c.requires.i_lt_k in
-    let second = second_event_of _ _ _ _ _ _ _ c.args.counts.counts (taken c.args.counts.grammar.accepted).sound o.0 o.1 c.requires.begun _ _ c.symbol_count-symbols.ensures.0 c.word_of.ensures c.if-word_of-eq1.false in
+    let second = second_event_of _ _ _ _ _ _ _ c.args.counts.now.counts (taken c.args.counts.now.grammar.accepted).sound o.0 o.1 c.requires.begun _ _ c.symbol_count-symbols.ensures.0 c.word_of.ensures c.if-word_of-eq1.false in
     let r = root _ _ _ _ _ second _ _ c.leaf_count-leaves.ensures.0 _ _ c.requires.begun.is in
     omega (arith, first_word _ _ _ _ r.text, c.leaf_count-leaves.ensures.0)
 
@@ -111,14 +111,14 @@ step_script-bounds-room-1 t c = omega (arith, begun_length _ _ _ _ _ _ c.require
 pub step_script-pair_of-p-requires : goal.step_script-pair_of-p-requires
 step_script-pair_of-p-requires t c =
     let o = c.requires.i_lt_k in
-    let second = second_event_of _ _ _ _ _ _ _ c.args.counts.counts (taken c.args.counts.grammar.accepted).sound o.0 o.1 c.requires.begun _ _ c.symbol_count-symbols.ensures.0 c.word_of.ensures c.if-word_of-eq1.false in
+    let second = second_event_of _ _ _ _ _ _ _ c.args.counts.now.counts (taken c.args.counts.now.grammar.accepted).sound o.0 o.1 c.requires.begun _ _ c.symbol_count-symbols.ensures.0 c.word_of.ensures c.if-word_of-eq1.false in
     let r = root _ _ _ _ _ second _ _ c.leaf_count-leaves.ensures.0 _ _ c.requires.begun.is in
     r.rule
 
 pub step_script-step_parts-requires : goal.step_script-step_parts-requires
 step_script-step_parts-requires t c =
     let o = c.requires.i_lt_k in
-    let second = second_event_of _ _ _ _ _ _ _ c.args.counts.counts (taken c.args.counts.grammar.accepted).sound o.0 o.1 c.requires.begun _ _ c.symbol_count-symbols.ensures.0 c.word_of.ensures c.if-word_of-eq1.false in
+    let second = second_event_of _ _ _ _ _ _ _ c.args.counts.now.counts (taken c.args.counts.now.grammar.accepted).sound o.0 o.1 c.requires.begun _ _ c.symbol_count-symbols.ensures.0 c.word_of.ensures c.if-word_of-eq1.false in
     let r = root _ _ _ _ _ second _ _ c.leaf_count-leaves.ensures.0 _ _ c.requires.begun.is in (
       omega arith,
       ((r.after, r.before, o.1, o.2), some_parted _ _ _ _ _ second _ _ c.leaf_count-leaves.ensures.0 _ _ c.requires.begun.is _ c.pair_of-p.ensures),
@@ -127,40 +127,40 @@ step_script-step_parts-requires t c =
 pub step_script-returns-then-step_parts : goal.step_script-returns-then-step_parts
 step_script-returns-then-step_parts t c =
     let o = c.requires.i_lt_k in
-    let second = second_event_of _ _ _ _ _ _ _ c.args.counts.counts (taken c.args.counts.grammar.accepted).sound o.0 o.1 c.requires.begun _ _ c.symbol_count-symbols.ensures.0 c.word_of.ensures c.if-word_of-eq1.false in
+    let second = second_event_of _ _ _ _ _ _ _ c.args.counts.now.counts (taken c.args.counts.now.grammar.accepted).sound o.0 o.1 c.requires.begun _ _ c.symbol_count-symbols.ensures.0 c.word_of.ensures c.if-word_of-eq1.false in
     record { from = λ q rest a. parts_stepped _ _ _ _ _ second _ _ c.leaf_count-leaves.ensures.0 q rest a _ c.pair_of-p.ensures _ _ c.step_parts.ensures c.if-step_parts.true }
 
 pub step_script-next_plan-requires-clause-i_lt_j : goal.step_script-next_plan-requires-clause-i_lt_j
 step_script-next_plan-requires-clause-i_lt_j t c =
     let o = c.requires.i_lt_k in
-    let second = second_event_of _ _ _ _ _ _ _ c.args.counts.counts (taken c.args.counts.grammar.accepted).sound o.0 o.1 c.requires.begun _ _ c.symbol_count-symbols.ensures.0 c.word_of.ensures c.if-word_of-eq1.false in
+    let second = second_event_of _ _ _ _ _ _ _ c.args.counts.now.counts (taken c.args.counts.now.grammar.accepted).sound o.0 o.1 c.requires.begun _ _ c.symbol_count-symbols.ensures.0 c.word_of.ensures c.if-word_of-eq1.false in
     let r = root _ _ _ _ _ second _ _ c.leaf_count-leaves.ensures.0 _ _ c.requires.begun.is in
     (r.after, r.before, o.1, o.2)
 
 pub step_script-next_plan-requires-clause-b_bound : goal.step_script-next_plan-requires-clause-b_bound
 step_script-next_plan-requires-clause-b_bound t c =
     let o = c.requires.i_lt_k in
-    let second = second_event_of _ _ _ _ _ _ _ c.args.counts.counts (taken c.args.counts.grammar.accepted).sound o.0 o.1 c.requires.begun _ _ c.symbol_count-symbols.ensures.0 c.word_of.ensures c.if-word_of-eq1.false in
+    let second = second_event_of _ _ _ _ _ _ _ c.args.counts.now.counts (taken c.args.counts.now.grammar.accepted).sound o.0 o.1 c.requires.begun _ _ c.symbol_count-symbols.ensures.0 c.word_of.ensures c.if-word_of-eq1.false in
     let r = root _ _ _ _ _ second _ _ c.leaf_count-leaves.ensures.0 _ _ c.requires.begun.is in
     (r.rule, r.symbol)
 
 pub step_script-write_plan-requires-clause-k_in_bounds : goal.step_script-write_plan-requires-clause-k_in_bounds
 step_script-write_plan-requires-clause-k_in_bounds t c =
     let o = c.requires.i_lt_k in
-    let second = second_event_of _ _ _ _ _ _ _ c.args.counts.counts (taken c.args.counts.grammar.accepted).sound o.0 o.1 c.requires.begun _ _ c.symbol_count-symbols.ensures.0 c.word_of.ensures c.if-word_of-eq1.false in
+    let second = second_event_of _ _ _ _ _ _ _ c.args.counts.now.counts (taken c.args.counts.now.grammar.accepted).sound o.0 o.1 c.requires.begun _ _ c.symbol_count-symbols.ensures.0 c.word_of.ensures c.if-word_of-eq1.false in
     let k = parts_kept _ _ _ _ _ second _ _ c.leaf_count-leaves.ensures.0 _ _ c.requires.begun.is _ c.pair_of-p.ensures _ _ c.step_parts.ensures c.if-step_parts.false in
     (o.1, o.2, rw k (begun_room _ _ _ _ _ _ c.requires.begun))
 
 pub step_script-write_plan-requires-clause-plan_ok : goal.step_script-write_plan-requires-clause-plan_ok
 step_script-write_plan-requires-clause-plan_ok t c =
     let o = c.requires.i_lt_k in
-    let second = second_event_of _ _ _ _ _ _ _ c.args.counts.counts (taken c.args.counts.grammar.accepted).sound o.0 o.1 c.requires.begun _ _ c.symbol_count-symbols.ensures.0 c.word_of.ensures c.if-word_of-eq1.false in
+    let second = second_event_of _ _ _ _ _ _ _ c.args.counts.now.counts (taken c.args.counts.now.grammar.accepted).sound o.0 o.1 c.requires.begun _ _ c.symbol_count-symbols.ensures.0 c.word_of.ensures c.if-word_of-eq1.false in
     plan_ok _ _ _ _ _ second _ _ c.leaf_count-leaves.ensures.0 _ _ c.requires.begun.is _ c.pair_of-p.ensures _ _ c.step_parts.ensures c.if-step_parts.false _ c.in-Some.ensures
 
 pub step_script-returns-in-Some : goal.step_script-returns-in-Some
 step_script-returns-in-Some t c =
     let o = c.requires.i_lt_k in
-    let second = second_event_of _ _ _ _ _ _ _ c.args.counts.counts (taken c.args.counts.grammar.accepted).sound o.0 o.1 c.requires.begun _ _ c.symbol_count-symbols.ensures.0 c.word_of.ensures c.if-word_of-eq1.false in
+    let second = second_event_of _ _ _ _ _ _ _ c.args.counts.now.counts (taken c.args.counts.now.grammar.accepted).sound o.0 o.1 c.requires.begun _ _ c.symbol_count-symbols.ensures.0 c.word_of.ensures c.if-word_of-eq1.false in
     record {
       from = λ q rest a. plan_written _ _ _ _ _ second _ _ c.leaf_count-leaves.ensures.0 q rest a _ c.pair_of-p.ensures _ _ c.step_parts.ensures c.if-step_parts.false _ c.in-Some.ensures _ c.write_plan.ensures;
     }
@@ -168,5 +168,5 @@ step_script-returns-in-Some t c =
 pub step_script-returns-in-None : goal.step_script-returns-in-None
 step_script-returns-in-None t c =
     let o = c.requires.i_lt_k in
-    let second = second_event_of _ _ _ _ _ _ _ c.args.counts.counts (taken c.args.counts.grammar.accepted).sound o.0 o.1 c.requires.begun _ _ c.symbol_count-symbols.ensures.0 c.word_of.ensures c.if-word_of-eq1.false in
+    let second = second_event_of _ _ _ _ _ _ _ c.args.counts.now.counts (taken c.args.counts.now.grammar.accepted).sound o.0 o.1 c.requires.begun _ _ c.symbol_count-symbols.ensures.0 c.word_of.ensures c.if-word_of-eq1.false in
     record { from = λ q rest a. no_more _ _ _ _ _ second _ _ c.leaf_count-leaves.ensures.0 q rest a _ c.pair_of-p.ensures _ _ c.step_parts.ensures c.if-step_parts.false c.in-None.ensures }

@@ -1,17 +1,11 @@
 -- A rule of the symbol adds what its splits do; a rule of another symbol adds nothing.
 use Rattle.std.proofs.Common.{arith}
-use Rattle.table.proofs.Adds.{reached}
 use Rattle.rank.proofs.Behind.{rules_start, rule_added, rule_passed}
 use Rattle.rank.proofs.before.rules_before.Goals as goal
 use Rattle.rank.proofs.before.rules_before.Goals.{then-p-symbol, else-p-symbol}
 
 pub loop-c-init : goal.loop-c-init
 loop-c-init c = (omega arith, rules_start _)
-
-pub splits_before-share-requires : goal.splits_before-share-requires
-splits_before-share-requires c =
-    let p = c.requires.i_lt_k in
-    (reached _ _ _ _ _ _ _ _ c.symbol_count-symbols.ensures.0 c.args.counts.counts c.pair_of-p.ensures p.0 p.1 p.2, p.0, omega arith)
 
 pub loop-c-preserved : goal.loop-c-preserved
 loop-c-preserved c =

@@ -7,4 +7,4 @@ use Rattle.table.specs.Fill.{pair_adds}
 use Rattle.rank.proofs.before.rules_before.Given as goal
 
 abbrev pub invariant-loop-c : goal.invariant-loop-c
-invariant-loop-c l = (l.c ≤ l.b) × (l.total ≡ held (sum l.c (pair_adds (shown l.counts.grammar) l.counts.table.now l.i l.k l.symbol)))
+invariant-loop-c l = (l.c ≤ l.b) × (l.total ≡ held (sum l.c (pair_adds (shown l.grammar) l.table l.i l.k l.symbol)))
