@@ -14,10 +14,10 @@ use Rattle.image.specs.declared.numbered.Refusal.{Refusal}
 use Rattle.image.specs.declared.numbered.Refusal.TheVariants as variant
 use Rattle.image.proofs.Outcomes.{never_zero}
 use Rattle.chart.specs.declared.Judgement.{Judgement}
-use Rattle.chart.specs.Answer.{Judged, judged}
+use Rattle.chart.specs.Answer.{judged}
 use Rattle.session.specs.declared.Session.{Session}
 use Rattle.session.specs.declared.Addition.{Addition}
-use Rattle.session.specs.Answer.{Added, TakenBack, added, taken_back}
+use Rattle.session.specs.Answer.{TakenBack, added, taken_back}
 use Rattle.readings.specs.Answer.{Counted, Read, Paged, Checked, Found, counted, read, paged, checked, found}
 
 -- ---- a refusal from its number and its rule
@@ -71,46 +71,41 @@ told (Ok x) (Err f) n e same = absurd (never_zero f (sym n))
 told (Err d) (Ok y) n e same = absurd (never_zero d n)
 told (Err d) (Err f) n e same = ap Err (refusal_told d f n e)
 
--- ---- of each service: what C is told of two Results is the same only where they are
+-- ---- what C is told of two Results is the same only where they are the same: its number and its rule say which refusal it was, if any, and its rest
+-- decides the Ok
+module _ {T A : Type 0} (flat : Result T Refusal → A) (number rule : A → ℕ) (answered : (x : T) → number (flat (Ok x)) ≡ 0)
+    (refused : (e : Refusal) → (number (flat (Err e)) ≡ number_of e) × (rule (flat (Err e)) ≡ rule_of e))
+    (same : (x y : T) → flat (Ok x) ≡ flat (Ok y) → x ≡ y) where
+  decides : (r s : Result T Refusal) → flat r ≡ flat s → r ≡ s
+  decides (Ok x) (Ok y) h = ap Ok (same x y h)
+  decides (Ok x) (Err f) h = absurd (never_zero f (sym (refused f).0 ∙ sym (ap number h) ∙ answered x))
+  decides (Err d) (Ok y) h = absurd (never_zero d (sym (refused d).0 ∙ ap number h ∙ answered y))
+  decides (Err d) (Err f) h =
+      ap Err (refusal_told d f (sym (refused d).0 ∙ ap number h ∙ (refused f).0) (sym (refused d).1 ∙ ap rule h ∙ (refused f).1))
+
 pub judged_told : (r s : Result Judgement Refusal) → judged r ≡ judged s → r ≡ s
-judged_told (Ok x) (Ok y) e = ap Ok (λ i. record { admitted = (e i).admitted; items = (e i).items; firings = (e i).firings })
-judged_told (Ok x) (Err f) e = absurd (never_zero f (sym (ap (λ (j : Judged). j.refusal) e)))
-judged_told (Err d) (Ok y) e = absurd (never_zero d (ap (λ (j : Judged). j.refusal) e))
-judged_told (Err d) (Err f) e = ap Err (refusal_told d f (ap (λ (j : Judged). j.refusal) e) (ap (λ (j : Judged). j.rule) e))
+judged_told = decides judged (λ j. j.refusal) (λ j. j.rule) (λ x. refl) (λ e. (refl, refl))
+    (λ x y h. λ i. record { admitted = (h i).admitted; items = (h i).items; firings = (h i).firings })
 
 pub counted_told : (r s : Result ℕ Refusal) → counted r ≡ counted s → r ≡ s
-counted_told (Ok x) (Ok y) e = ap Ok (ap (λ (c : Counted). c.total) e)
-counted_told (Ok x) (Err f) e = absurd (never_zero f (sym (ap (λ (c : Counted). c.refusal) e)))
-counted_told (Err d) (Ok y) e = absurd (never_zero d (ap (λ (c : Counted). c.refusal) e))
-counted_told (Err d) (Err f) e = ap Err (refusal_told d f (ap (λ (c : Counted). c.refusal) e) (ap (λ (c : Counted). c.rule) e))
+counted_told = decides counted (λ c. c.refusal) (λ c. c.rule) (λ x. refl) (λ e. (refl, refl)) (λ x y. ap (λ (c : Counted). c.total))
 
 -- one that answers nothing but whether it refused
 pub read_told : {T : Type 0} (r s : Result T Refusal) → ((x y : T) → x ≡ y) → read r ≡ read s → r ≡ s
 read_told r s one e = told r s (ap (λ (a : Read). a.refusal) e) (ap (λ (a : Read). a.rule) e) (λ x y p q. one x y)
 
 pub paged_told : (r s : Result ℕ Refusal) → paged r ≡ paged s → r ≡ s
-paged_told (Ok x) (Ok y) e = ap Ok (ap (λ (p : Paged). p.written) e)
-paged_told (Ok x) (Err f) e = absurd (never_zero f (sym (ap (λ (p : Paged). p.refusal) e)))
-paged_told (Err d) (Ok y) e = absurd (never_zero d (ap (λ (p : Paged). p.refusal) e))
-paged_told (Err d) (Err f) e = ap Err (refusal_told d f (ap (λ (p : Paged). p.refusal) e) (ap (λ (p : Paged). p.rule) e))
+paged_told = decides paged (λ p. p.refusal) (λ p. p.rule) (λ x. refl) (λ e. (refl, refl)) (λ x y. ap (λ (p : Paged). p.written))
 
 pub checked_told : (r s : Result Bool Refusal) → checked r ≡ checked s → r ≡ s
-checked_told (Ok x) (Ok y) e = ap Ok (ap (λ (c : Checked). c.yes) e)
-checked_told (Ok x) (Err f) e = absurd (never_zero f (sym (ap (λ (c : Checked). c.refusal) e)))
-checked_told (Err d) (Ok y) e = absurd (never_zero d (ap (λ (c : Checked). c.refusal) e))
-checked_told (Err d) (Err f) e = ap Err (refusal_told d f (ap (λ (c : Checked). c.refusal) e) (ap (λ (c : Checked). c.rule) e))
+checked_told = decides checked (λ c. c.refusal) (λ c. c.rule) (λ x. refl) (λ e. (refl, refl)) (λ x y. ap (λ (c : Checked). c.yes))
 
 pub found_told : (r s : Result ℕ Refusal) → found r ≡ found s → r ≡ s
-found_told (Ok x) (Ok y) e = ap Ok (ap (λ (f : Found). f.reading) e)
-found_told (Ok x) (Err f) e = absurd (never_zero f (sym (ap (λ (a : Found). a.refusal) e)))
-found_told (Err d) (Ok y) e = absurd (never_zero d (ap (λ (a : Found). a.refusal) e))
-found_told (Err d) (Err f) e = ap Err (refusal_told d f (ap (λ (a : Found). a.refusal) e) (ap (λ (a : Found). a.rule) e))
+found_told = decides found (λ f. f.refusal) (λ f. f.rule) (λ x. refl) (λ e. (refl, refl)) (λ x y. ap (λ (f : Found). f.reading))
 
 pub added_told : (before : Session) (r s : Result Addition Refusal) → added before r ≡ added before s → r ≡ s
-added_told before (Ok x) (Ok y) e = ap Ok (λ i. record { session = (e i).session; firings = (e i).firings; admitted = (e i).admitted })
-added_told before (Ok x) (Err f) e = absurd (never_zero f (sym (ap (λ (a : Added). a.refusal) e)))
-added_told before (Err d) (Ok y) e = absurd (never_zero d (ap (λ (a : Added). a.refusal) e))
-added_told before (Err d) (Err f) e = ap Err (refusal_told d f (ap (λ (a : Added). a.refusal) e) (ap (λ (a : Added). a.rule) e))
+added_told before = decides (added before) (λ a. a.refusal) (λ a. a.rule) (λ x. refl) (λ e. (refl, refl))
+    (λ x y h. λ i. record { session = (h i).session; firings = (h i).firings; admitted = (h i).admitted })
 
 -- taking back refuses by 18 alone, whose number decides it
 empty_by_number : (e : Refusal) → number_of e ≡ 18 → e ≡ variant.SessionEmpty
